@@ -1,0 +1,15 @@
+pub mod Ints
+pub mod Inversion
+pub mod Chains
+pub mod Lists
+pub mod Bytes
+pub mod Stretch
+pub mod Biased
+pub mod Places
+pub mod Sound
+pub mod Runs
+pub mod Write
+pub mod Append
+pub mod Unlinked
+pub mod Read
+pub mod ReadBack

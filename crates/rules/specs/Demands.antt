@@ -1,0 +1,75 @@
+-- The demands as statements; proofs/ proves each.
+use Prim.Native.Nat.{ℕ, _+_, _/_, _≤_, _<_}
+use mathlib.Core.Path.{_≡_}
+use mathlib.Core.Bool.{Bool, true}
+use mathlib.Core.List.{List}
+use lib.IntN.{ℤ}
+use lib.Signed.{_≤ℤ_}
+use lib.ListN.{length, take}
+use Rattle.rules.specs.Outcome.{Outcome, refused, given, numberOf}
+use Rattle.rules.specs.Refusals.{settleRefusals, freshRefusals, appendRefusals, auditRefusals}
+use Rattle.rules.specs.Numbers.{sumℤ, member}
+use Rattle.rules.specs.Archive.{kindOf, usedOf}
+use Rattle.rules.specs.Settle.{Answer, answerOf, settle, listAfter}
+use Rattle.rules.specs.Fractions.{Raised}
+use Rattle.rules.specs.Host.{hostSettle}
+use Rattle.rules.specs.Filing.{fresh, newAllowed, offsetFor, append}
+use Rattle.rules.specs.Audit.{audit, Sound}
+use Rattle.rules.specs.Promises.{Settles, HostSettles, Freshens, Appends}
+use Rattle.rules.specs.ReadBack.{Filing, fileAll, Filed}
+
+-- ---- demand 1: an answer or the one refusal; a refused call changes nothing
+
+-- a refusal's number is one of these
+pub record RefusedWithin {A : Type 0} (numbers : List ℕ) (o : Outcome A) : Type 0 where
+  pub of : (n : ℕ) → o ≡ refused n → member n numbers ≡ true
+
+pub record EveryCallAnswers : Type 0 where
+  pub settles : (archive : List ℕ) (p k places : ℕ) → RefusedWithin settleRefusals (settle archive p k places)
+  pub host-settles : (archive : List ℕ) (p k listBytes resultBytes : ℕ) → RefusedWithin settleRefusals (hostSettle archive p k listBytes resultBytes)
+  pub freshens : (archive : List ℕ) → RefusedWithin freshRefusals (fresh archive)
+  pub appends : (archive : List ℕ) (owner : ℕ) (new : List ℕ) → RefusedWithin appendRefusals (append archive owner new)
+  pub audits : (archive : List ℕ) → RefusedWithin auditRefusals (audit archive)
+
+-- show and audit are lent the archive for reading alone, settle too
+pub record RefusalsChangeNothing : Type 0 where
+  pub settles : (archive : List ℕ) (p k : ℕ) (list later : List ℤ) (answer : Answer) → Settles archive p k list later answer
+      → (answer .number ≡ 0 → ⊥) → later ≡ list
+  pub host-settles : (archive : List ℕ) (p k : ℕ) (list laterList result laterResult : List ℕ) (number : ℕ)
+      → HostSettles archive p k list laterList result laterResult number → (number ≡ 0 → ⊥) → (laterList ≡ list) × (laterResult ≡ result)
+  pub freshens : (archive later : List ℕ) (number : ℕ) → Freshens archive later number → (number ≡ 0 → ⊥) → later ≡ archive
+  pub appends : (archive : List ℕ) (owner : ℕ) (new later : List ℕ) (number : ℕ) → Appends archive owner new later number
+      → (number ≡ 0 → ⊥) → later ≡ archive
+
+-- ---- demand 2: what is filed is read again
+
+-- filed one by one into a fresh archive, none refused, all are read again
+abbrev pub ReadAgain : Type 0
+ReadAgain = (archive start end : List ℕ) (filings : List Filing) → fresh archive ≡ given start → fileAll filings start ≡ given end → Filed filings end
+
+-- an append that isn't refused leaves a sound archive sound
+abbrev pub StaysSound : Type 0
+StaysSound = (archive later : List ℕ) (owner : ℕ) (new : List ℕ) → Sound archive → append archive owner new ≡ given later → Sound later
+
+-- an allowed record under an owner of its kind is filed as long as a record is free
+abbrev pub Files : Type 0
+Files =
+    (archive : List ℕ) (used owner offset : ℕ) (new : List ℕ) → Sound archive → usedOf archive ≡ given used → newAllowed new ≡ true
+    → offsetFor archive used owner (kindOf new) ≡ given offset → used < length archive / 32 → (later : List ℕ) × (append archive owner new ≡ given later)
+
+-- ---- demand 3: the amounts against the exact fractions, and against an archive with raised readings
+
+-- whoever answers with the rule book's equations keeps the whole promise, the exact fractions included
+abbrev pub SettleKeeps : Type 0
+SettleKeeps =
+    (archive : List ℕ) (p k : ℕ) (list later : List ℤ) (answer : Answer) → answer ≡ answerOf (settle archive p k (length list))
+    → later ≡ listAfter (settle archive p k (length list)) list → Settles archive p k list later answer
+
+-- two calls of settle with the same p and k, each with a list of its own, neither refused, the second's readings raised: both have the
+-- same count of quarters, and after every quarter the second's running signed total is no higher
+abbrev pub RunningTotalsFall : Type 0
+RunningTotalsFall =
+    (first second : List ℕ) (p k : ℕ) (list₁ later₁ list₂ later₂ : List ℤ) (answer₁ answer₂ : Answer)
+    → Settles first p k list₁ later₁ answer₁ → Settles second p k list₂ later₂ answer₂
+    → answer₁ .number ≡ 0 → answer₂ .number ≡ 0 → Raised first second p k
+    → (answer₂ .count ≡ answer₁ .count) × ((n : ℕ) → n ≤ answer₁ .count → sumℤ (take n later₂) ≤ℤ sumℤ (take n later₁))

@@ -1,0 +1,52 @@
+-- What each call promises, for every archive of arbitrary bytes, every list and every number: one record for each call (01, 'Calls on the
+-- archive' and 'What every statement must say', 1). Results and later contents are equations, for refusals too.
+use Prim.Native.Nat.{ℕ, _+_, _*_}
+use mathlib.Core.Path.{_≡_}
+use mathlib.Core.Bool.{cond}
+use mathlib.Core.List.{List}
+use lib.IntN.{ℤ}
+use lib.ListN.{length}
+use denote.Ref.{RefT}
+use Rattle.rules.specs.Outcome.{given, numberOf}
+use Rattle.rules.specs.Archive.{usedOf}
+use Rattle.rules.specs.Settle.{settle, Answer, answerOf, listAfter}
+use Rattle.rules.specs.Fractions.{Fractions, exactFractions, Exact}
+use Rattle.rules.specs.Host.{hostSettle, hostListAfter, hostResultAfter}
+use Rattle.rules.specs.Filing.{fresh, append, archiveAfter, isShown, shown}
+use Rattle.rules.specs.Audit.{audit}
+
+-- demand 3 of one call that isn't refused: the list that it leaves and the total that it gives keep to the exact fractions
+pub record KeepsToFractions (archive : List ℕ) (p k : ℕ) (later : List ℤ) (answer : Answer) : Type 0 where
+  pub fractions : Fractions
+  pub are : exactFractions archive p k ≡ given fractions
+  pub as-many : length (fractions .numerators) ≡ answer .count
+  pub exact : Exact fractions later (answer .total)
+
+-- settle of plant place p, measure place k, with a lent list that is `later` afterwards
+pub record Settles (archive : List ℕ) (p k : ℕ) (list later : List ℤ) (answer : Answer) : Type 0 where
+  pub answers : answer ≡ answerOf (settle archive p k (length list))
+  pub leaves : later ≡ listAfter (settle archive p k (length list)) list
+  pub keeps : answer .number ≡ 0 → KeepsToFractions archive p k later answer
+
+-- the same for the operator's host: the list and the results as bytes
+pub record HostSettles (archive : List ℕ) (p k : ℕ) (list laterList result laterResult : List ℕ) (number : ℕ) : Type 0 where
+  pub answers : number ≡ numberOf (hostSettle archive p k (length list) (length result))
+  pub leaves-list : laterList ≡ hostListAfter (hostSettle archive p k (length list) (length result)) list
+  pub leaves-result : laterResult ≡ hostResultAfter (hostSettle archive p k (length list) (length result)) result
+
+pub record Freshens (archive later : List ℕ) (number : ℕ) : Type 0 where
+  pub answers : number ≡ numberOf (fresh archive)
+  pub leaves : later ≡ archiveAfter (fresh archive) archive
+
+pub record Appends (archive : List ℕ) (owner : ℕ) (new later : List ℕ) (number : ℕ) : Type 0 where
+  pub answers : number ≡ numberOf (append archive owner new)
+  pub leaves : later ≡ archiveAfter (append archive owner new) archive
+
+-- show hands back a part of the lent archive itself: its bytes, the block that it lies in, and the place there
+pub record Shows (archive : RefT (List ℕ)) (n : ℕ) (part : RefT (List ℕ)) : Type 0 where
+  pub content : part .now ≡ shown (archive .now) n
+  pub block : part .ptr .0 ≡ archive .ptr .0
+  pub offset : part .ptr .1 ≡ archive .ptr .1 + cond (isShown (usedOf (archive .now)) n) (32 * n) 0
+
+pub record Audits (archive : List ℕ) (number : ℕ) : Type 0 where
+  pub answers : number ≡ numberOf (audit archive)

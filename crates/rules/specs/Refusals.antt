@@ -1,0 +1,87 @@
+-- The refusal numbers of 01, 'Refused sheets', by name; src/refusal.rt has the same names for the code.
+use Prim.Native.Nat.{ℕ}
+use mathlib.Core.List.{List, [], _∷_}
+
+-- length not 32 × 1..65,535, text or U wrong
+abbrev pub notArchive : ℕ
+notArchive = 1
+
+-- link not above its holder or not below U
+abbrev pub badLink : ℕ
+badLink = 2
+
+-- wrong kind at a link; in audit any unknown kind
+abbrev pub wrongKind : ℕ
+wrongKind = 3
+
+-- no plant p
+abbrev pub noPlant : ℕ
+noPlant = 4
+
+-- no measure k
+abbrev pub noMeasure : ℕ
+noMeasure = 5
+
+-- technology, variant or Pn
+abbrev pub badPlant : ℕ
+badPlant = 6
+
+-- direction or execution; positive for wind or solar
+abbrev pub badMeasure : ℕ
+badMeasure = 7
+
+-- quarters not 1..2,976; before-quarters over 96
+abbrev pub badCount : ℕ
+badCount = 8
+
+-- needed field out of range
+abbrev pub outOfRange : ℕ
+outOfRange = 9
+
+-- under two curve points, or speeds not rising
+abbrev pub badCurve : ℕ
+badCurve = 10
+
+-- fewer usable before-quarters than needed
+abbrev pub tooFewUsable : ℕ
+tooFewUsable = 11
+
+-- B is 0
+abbrev pub divisorZero : ℕ
+divisorZero = 12
+
+-- list shorter than the quarters; in the C entry also a result part that isn't 24 bytes
+abbrev pub noRoom : ℕ
+noRoom = 13
+
+-- new record: not 32 bytes, kind not 1-5, or a link not 0
+abbrev pub badRecord : ℕ
+badRecord = 14
+
+-- owner unused or of the wrong kind
+abbrev pub badOwner : ℕ
+badOwner = 15
+
+-- U equals all records
+abbrev pub archiveFull : ℕ
+archiveFull = 16
+
+-- audit: a record named by none or several
+abbrev pub notNamedOnce : ℕ
+notNamedOnce = 17
+
+-- ---- the numbers that each call can return beside 0
+
+abbrev pub settleRefusals : List ℕ
+settleRefusals =
+    notArchive ∷ badLink ∷ wrongKind ∷ noPlant ∷ noMeasure ∷ badPlant ∷ badMeasure ∷ badCount ∷ outOfRange ∷ badCurve
+    ∷ tooFewUsable ∷ divisorZero ∷ noRoom ∷ []
+
+abbrev pub freshRefusals : List ℕ
+freshRefusals = notArchive ∷ []
+
+abbrev pub appendRefusals : List ℕ
+appendRefusals = notArchive ∷ badRecord ∷ badOwner ∷ badLink ∷ wrongKind ∷ archiveFull ∷ []
+
+abbrev pub auditRefusals : List ℕ
+auditRefusals = notArchive ∷ badLink ∷ wrongKind ∷ notNamedOnce ∷ []

@@ -1,0 +1,38 @@
+// The types that the rule book (specs/) and the code of the other crates share. What they mean is said in specs/.
+
+pub mod refusal;
+
+// Technology of a plant (byte 1).
+pub enum Technology {
+    Wind,
+    Solar,
+    Other,
+}
+
+// Settlement variant (byte 2): Spitzabrechnung, Pauschal-Abrechnung.
+pub enum Variant {
+    Spitz,
+    Pauschal,
+}
+
+// Direction of the redispatch (byte 1 of a measure).
+pub enum Direction {
+    Positive,
+    Negative,
+}
+
+// Execution (byte 2 of a measure): Aufforderungsfall, Duldungsfall, beidseitige Fixierung.
+pub enum Execution {
+    Requested,
+    Tolerated,
+    Fixed,
+}
+
+// A row of the plant factors (Anlagenfaktor): summer or winter, from this quarter of the day until that one, over midnight
+// where `until` is the smaller; the factor is in ten-thousandths.
+pub struct FactorRow {
+    pub summer: bool,
+    pub from: u64,
+    pub until: u64,
+    pub factor: u64,
+}
