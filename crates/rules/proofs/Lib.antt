@@ -13,3 +13,13 @@ pub mod Append
 pub mod Unlinked
 pub mod Read
 pub mod ReadBack
+pub mod Positive
+pub mod Monotone
+pub mod Agree
+pub mod Refusals
+pub mod Settled
+pub mod Demand
+pub mod Raise
+pub mod Curve
+pub mod Factors
+pub mod Host

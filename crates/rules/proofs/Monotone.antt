@@ -1,0 +1,89 @@
+-- Raised readings and running totals, on the quarters' readings alone.
+use mathlib.Core.Path.{_≡_, refl, _∙_, ap}
+use mathlib.Core.List.{List, [], _∷_, map}
+use Prim.Native.Nat.{ℕ, zero, suc, _*_, _/_, _≤_, _<_}
+use native.Mathlib.Nat.{le-refl, zero-div, zero-add}
+use native.Mathlib.Omega.{arith}
+use lib.IntN.{ℤ, pos, _*ℤ_}
+use lib.Signed.{_≤ℤ_}
+use lib.ListN.{take}
+use Rattle.rules.specs.Numbers.{sum, sumℤ, orZero}
+use Rattle.rules.specs.Terms.{Direction, positive, negative, Execution, requested, tolerated, fixed, Quarter}
+use Rattle.rules.specs.Reference.{limitation, curvePower, plantFactor, Reference, onCurve, lastMeasured, onIrradiance, byFactor, asPlanned, denominator, numerator, magnitude, exactOf}
+use Rattle.rules.specs.Numbers.{smaller}
+use Rattle.rules.specs.Booking.{signed, bookedFrom, amountsOf}
+use Rattle.rules.proofs.Ints.{parts-le, neg-mono, times-mono, minus-mono, minus-anti, smaller-mono, larger-mono}
+use Rattle.rules.proofs.Stretch.{booked-sum, booked-take, take-map, sum-signed, div-mono}
+
+-- the second quarter has the first one's readings, but for a measured power and a limit that may be higher
+pub record Higher (q q′ : Quarter) : Type 0 where
+  pub month : q .month ≡ q′ .month
+  pub quarterOfDay : q .quarterOfDay ≡ q′ .quarterOfDay
+  pub weather : q .weather ≡ q′ .weather
+  pub planned : q .planned ≡ q′ .planned
+  pub measured : q .measured ≤ℤ q′ .measured
+  pub limit : q .limit ≤ℤ q′ .limit
+
+-- T is the same
+numerator-same : (r : Reference) {q q′ : Quarter} → Higher q q′ → numerator r q ≡ numerator r q′
+unfolding numerator
+numerator-same (onCurve a b pn points) h = ap (λ w. smaller (a *ℤ pos (curvePower points (orZero w))) (pos (pn * b))) (h .weather)
+numerator-same (lastMeasured p0) h = refl
+numerator-same (onIrradiance a b) h = ap (λ w. a *ℤ w) (h .weather)
+numerator-same (byFactor pn) {q} {q′} h =
+    ap (λ (m : ℕ). pos (pn * plantFactor m (q .quarterOfDay))) (h .month) ∙ ap (λ (n : ℕ). pos (pn * plantFactor (q′ .month) n)) (h .quarterOfDay)
+numerator-same asPlanned h = h .planned
+
+-- L is no lower
+limitation-mono : (s : Direction) (x : Execution) {m m′ l l′ : ℤ} → m ≤ℤ m′ → l ≤ℤ l′ → limitation s x m l ≤ℤ limitation s x m′ l′
+unfolding limitation
+limitation-mono positive requested hm hl = smaller-mono hm hl
+limitation-mono negative requested hm hl = larger-mono hm hl
+limitation-mono s tolerated hm hl = hm
+limitation-mono s fixed hm hl = hm
+
+-- a higher amount in the direction's own sense: more curtailed is less where redispatch is positive
+abbrev NoMore : Direction → ℕ → ℕ → Type 0
+NoMore negative m m′ = m′ ≤ m
+NoMore positive m m′ = m ≤ m′
+
+exact-falls : (s : Direction) (x : Execution) (r : Reference) {q q′ : Quarter} → Higher q q′ → NoMore s (exactOf s x r q) (exactOf s x r q′)
+unfolding exactOf magnitude
+exact-falls negative x r {q} {q′} h =
+    rw (numerator-same r h)
+    (minus-anti (numerator r q′) (times-mono (denominator r) (limitation-mono negative x (h .measured) (h .limit))))
+exact-falls positive x r {q} {q′} h =
+    rw (numerator-same r h)
+    (minus-mono (numerator r q′) (times-mono (denominator r) (limitation-mono positive x (h .measured) (h .limit))))
+
+-- the same along two lists
+pub data Along {A B : Type 0} (R : A → B → Type 0) : List A → List B → Type 0 where
+  done : Along R [] []
+  then : {a : A} {b : B} {as′ : List A} {bs : List B} → R a b → Along R as′ bs → Along R (a ∷ as′) (b ∷ bs)
+
+sum-falls : (s : Direction) (x : Execution) (r : Reference) (n : ℕ) {qs qs′ : List Quarter} → Along Higher qs qs′
+    → NoMore s (sum (take n (map (exactOf s x r) qs))) (sum (take n (map (exactOf s x r) qs′)))
+sum-falls negative x r zero along = le-refl 0
+sum-falls positive x r zero along = le-refl 0
+sum-falls negative x r (suc n) done = le-refl 0
+sum-falls positive x r (suc n) done = le-refl 0
+sum-falls negative x r (suc n) (then h along) = omega (arith, exact-falls negative x r h, sum-falls negative x r n along)
+sum-falls positive x r (suc n) (then h along) = omega (arith, exact-falls positive x r h, sum-falls positive x r n along)
+
+-- the running total after n quarters is the exact sum, rounded down, with its sign
+pub running : (s : Direction) (d : ℕ) (exact : List ℕ) (n : ℕ) → 0 < d → sumℤ (take n (amountsOf s d exact)) ≡ signed s (sum (take n exact) / d)
+unfolding amountsOf
+running s d exact n p =
+    ap sumℤ (take-map (signed s) n (bookedFrom d 0 exact) ∙ ap (map (signed s)) (booked-take n d 0 exact))
+    ∙ sum-signed s (bookedFrom d 0 (take n exact))
+    ∙ ap (signed s) (omega (arith, booked-sum d 0 (take n exact) p, zero-div d, ap (λ (m : ℕ). m / d) (zero-add (sum (take n exact)))))
+
+signed-falls : (s : Direction) (d m m′ : ℕ) → 0 < d → NoMore s m m′ → signed s (m′ / d) ≤ℤ signed s (m / d)
+signed-falls negative d m m′ p h = parts-le _ _ (omega (arith, div-mono {d = d} p h))
+signed-falls positive d m m′ p h = neg-mono (parts-le (pos (m / d)) (pos (m′ / d)) (omega (arith, div-mono {d = d} p h)))
+
+pub running-falls : (s : Direction) (x : Execution) (r : Reference) (d : ℕ) {qs qs′ : List Quarter} → 0 < d → Along Higher qs qs′ → (n : ℕ)
+    → sumℤ (take n (amountsOf s d (map (exactOf s x r) qs′))) ≤ℤ sumℤ (take n (amountsOf s d (map (exactOf s x r) qs)))
+running-falls s x r d {qs} {qs′} p along n =
+    rw (running s d (map (exactOf s x r) qs) n p, running s d (map (exactOf s x r) qs′) n p)
+    (signed-falls s d _ _ p (sum-falls s x r n along))
