@@ -23,3 +23,5 @@ pub mod Raise
 pub mod Curve
 pub mod Factors
 pub mod Host
+pub mod PlacesOnChains
+pub mod Output
