@@ -11,7 +11,7 @@ use lib.ListN.{length, length-append}
 use borrow.Author.Tests.{eqb-true, eqb-false, eq-eqb, ne-eqb, ltb-true}
 use Rattle.rules.specs.Outcome.{Outcome, refused, given, _>>=_, _>>_, require}
 use Rattle.rules.specs.Numbers.{keep, all}
-use Rattle.rules.specs.Archive.{byteAt, linkAt, kindOf, recordAt, isText, usedOf, Entry, chain}
+use Rattle.rules.specs.Archive.{byteAt, linkAt, kindOf, recordAt, isText, usedOf, Entry, entryAt, chain}
 use Rattle.rules.specs.Links.{Link, link, isKind, headLinks, ownedBy, linksOf, ownedAt, linksAt, standsAt, linkPlaces, namers}
 use Rattle.rules.specs.Filing.{newAllowed, offsetIn, offsetFor, lastPlace, appendAfter, append}
 use Rattle.rules.specs.Audit.{Sound}
@@ -19,7 +19,7 @@ use Rattle.rules.proofs.Bytes.{byte-of, link-of}
 use Rattle.rules.proofs.Lists.{keep-same, keep-none, keep-append, apart-two, apart-once, apart-within, of-map, in-map}
 use Rattle.rules.proofs.Places.{SameStart, owned-same, links-same, places-apart, at-within, owned-at, owned-in, one-place, next-in, stands-in, in-stands, place-low, Stands}
 use Rattle.rules.proofs.Sound.{bind-both, required, both, Head, used-head, head-used, head-room, whole-length, Leads, ends, leads, Stored, Well, well-sound, sound-well}
-use Rattle.rules.proofs.Runs.{Runs, entryAt, lastAt, last-is, chain-runs, last-ends}
+use Rattle.rules.proofs.Runs.{Runs, lastAt, last-is, chain-runs, last-ends}
 use Rattle.rules.proofs.Write.{Wrote, wrote}
 
 -- ---- the new record

@@ -8,7 +8,7 @@ use native.Mathlib.Omega.{arith}
 use lib.Dec.{T, eqb, ltb, ltb→lt}
 use Rattle.rules.specs.Outcome.{refused, given, _>>=_, _>>_, require}
 use borrow.Author.Tests.{lt-ltb, le-ltb, eq-eqb, ne-eqb}
-use Rattle.rules.specs.Archive.{recordAt, kindOf, follow, nextOf, chainFrom, chain}
+use Rattle.rules.specs.Archive.{recordAt, kindOf, entryAt, follow, nextOf, chainFrom, chain}
 use Rattle.rules.proofs.Inversion.{Holds, holds-require, holds-given, both-left, both-right, bind-same}
 
 module _ (archive : List ℕ) (used kind : ℕ) where
@@ -68,7 +68,7 @@ module _ (archive : List ℕ) (used kind : ℕ) where
   follow-other holder link h k e = rw (lt-ltb holder link h, lt-ltb link used k, e)
 
   pub follow-met : (holder link : ℕ) → holder < link → link < used → eqb (kindOf (recordAt archive link)) kind ≡ true
-      → follow archive used kind holder link ≡ given (record { number = link; bytes = recordAt archive link })
+      → follow archive used kind holder link ≡ given (entryAt archive link)
   unfolding follow _>>_ require
   follow-met holder link h k e = rw (lt-ltb holder link h, lt-ltb link used k, e)
 

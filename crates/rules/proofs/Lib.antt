@@ -25,3 +25,4 @@ pub mod Factors
 pub mod Host
 pub mod PlacesOnChains
 pub mod Output
+pub mod Ranges

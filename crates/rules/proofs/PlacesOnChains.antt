@@ -7,7 +7,7 @@ use native.Mathlib.Omega.{arith}
 use lib.Dec.{T, eqb, ltb, ltb→lt}
 use Rattle.rules.specs.Outcome.{Outcome, refused, given, _>>=_, _>>_, require}
 use Rattle.rules.specs.Refusals.{badLink, wrongKind, noPlant, noMeasure}
-use Rattle.rules.specs.Archive.{recordAt, usedOf, Entry, follow, nextOf, atPlace, plantKind, measureKind, firstPlant, firstMeasure}
+use Rattle.rules.specs.Archive.{recordAt, usedOf, Entry, entryAt, follow, nextOf, atPlace, plantKind, measureKind, firstPlant, firstMeasure}
 use Rattle.rules.specs.Settle.{Place, placeOf, Settlement, settled}
 use Rattle.rules.proofs.Inversion.{Holds, holds-refused, holds-given, both-left, both-right}
 
@@ -30,7 +30,7 @@ module _ (archive : List ℕ) (used kind : ℕ) where
   follow-answers P holder link two three met =
       require-answers P (ltb holder link && ltb link used) badLink _ two (λ t.
       require-answers P _ wrongKind _ three (λ u.
-      met (record { number = link; bytes = recordAt archive link })
+      met (entryAt archive link)
       (ltb→lt holder link (both-left (ltb holder link) (ltb link used) t))
       (ltb→lt link used (both-right (ltb holder link) (ltb link used) t))))
 

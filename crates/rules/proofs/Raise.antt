@@ -13,7 +13,7 @@ use lib.Seq.{take-append-le}
 use Rattle.rules.specs.Outcome.{Outcome, given, _>>=_, _>>_, require}
 use Rattle.rules.specs.Refusals.{settleRefusals}
 use Rattle.rules.specs.Numbers.{sumℤ, member, mapFrom}
-use Rattle.rules.specs.Archive.{byteAt, linkAt, fieldAt, recordAt, kindOf, nextOf, isText, usedOf, Entry, follow, chainFrom, chain}
+use Rattle.rules.specs.Archive.{byteAt, linkAt, fieldAt, recordAt, kindOf, nextOf, isText, usedOf, Entry, entryAt, follow, chainFrom, chain}
 use Rattle.rules.specs.Terms.{Quarter, quarterOf, directionOf, executionOf}
 use Rattle.rules.specs.Settle.{Place, placeOf, Basis, quarterChain, quartersRead, quartersOf, measureDenominator, Settlement, settlementOf, settle, Answer, answerOf, listAfter}
 use Rattle.rules.specs.Fractions.{quarterNumbers, Raised}
@@ -51,7 +51,7 @@ chain-from-entered a used kind (suc steps) holder link =
 -- ---- the same chain in another archive that has the same kinds and next links
 
 abbrev moved : List ℕ → Entry → Entry
-moved b e = record { number = e .number; bytes = recordAt b (e .number) }
+moved b e = entryAt b (e .number)
 
 twice : (t u : Bool) (x : Entry) (f : Entry → Entry)
     → Holds (λ e. (require t 2 >> (require u 3 >> given (f x))) ≡ given (f e)) (require t 2 >> (require u 3 >> given x))
@@ -70,7 +70,7 @@ module _ (a b : List ℕ) (g : Agree a b) (used kind : ℕ) where
   unfolding follow
   follow-moved holder link =
       rw (← kind-same a b g link)
-      (twice (ltb holder link && ltb link used) (eqb (kindOf (recordAt a link)) kind) (record { number = link; bytes = recordAt a link }) (moved b))
+      (twice (ltb holder link && ltb link used) (eqb (kindOf (recordAt a link)) kind) (entryAt a link) (moved b))
 
   chain-from-moved : (steps holder link : ℕ)
       → Holds (λ es. chainFrom b used kind steps holder link ≡ given (map (moved b) es)) (chainFrom a used kind steps holder link)

@@ -9,14 +9,14 @@ use lib.Dec.{eqb, ltb}
 use lib.ListN.{length}
 use borrow.Author.Tests.{eqb-true, eqb-false, eq-eqb, ne-eqb, ltb-true, ltb-false, lt-ltb, le-ltb}
 use Rattle.rules.specs.Outcome.{Outcome, refused, given, _>>=_, _>>_, require}
-use Rattle.rules.specs.Archive.{byteAt, linkAt, kindOf, recordAt, usedOf, Entry, chain}
+use Rattle.rules.specs.Archive.{byteAt, linkAt, kindOf, recordAt, usedOf, Entry, entryAt, chain}
 use Rattle.rules.specs.Links.{Link, link, isKind, ownedBy, linksOf, ownedAt, linksAt, standsAt, linkPlaces}
 use Rattle.rules.specs.Filing.{offsetIn, offsetFor, append}
 use Rattle.rules.specs.ReadBack.{unlinked, butLinks, readUnder}
 use Rattle.rules.proofs.Bytes.{record-length}
 use Rattle.rules.proofs.Places.{links-same, links-within, links-at, at-within, owned-at, owned-in, one-place, next-in, stands-in}
 use Rattle.rules.proofs.Sound.{Head, head-room, Well}
-use Rattle.rules.proofs.Runs.{Runs, entryAt, lastAt, runs-chain, last-above, Reach, here, step, last-reached, reach-in, Starts, one-chain, link-runs}
+use Rattle.rules.proofs.Runs.{Runs, lastAt, runs-chain, last-above, Reach, here, step, last-reached, reach-in, Starts, one-chain, link-runs}
 use Rattle.rules.proofs.Write.{Wrote}
 use Rattle.rules.proofs.Append.{New, Owned, offset-owned, Appending, Last, last, owned, writing, byte-kept, start-kept, kind-kept, links-kept, owned-kept, link-kept, new-zero, well-after}
 use Rattle.rules.proofs.Unlinked.{Outside, unlinked-zero, unlinked-same}

@@ -9,7 +9,7 @@ use lib.Dec.{eqb, ltb}
 use lib.ListN.{length, getD, replicate, length-replicate}
 use borrow.Author.Tests.{lt-ltb}
 use Rattle.rules.specs.Outcome.{Outcome, refused, given, _>>=_, _>>_, require}
-use Rattle.rules.specs.Archive.{byteAt, linkAt, kindOf, recordAt, isWhole, usedOf, Entry, chain}
+use Rattle.rules.specs.Archive.{byteAt, linkAt, kindOf, recordAt, isWhole, usedOf, Entry, entryAt, chain}
 use Rattle.rules.specs.Links.{Link, link, linksOf, isLinkByte, linksAt, standsAt, namers}
 use Rattle.rules.specs.Filing.{freshBytes, fresh, newAllowed, offsetFor, lastPlace, appendAfter, append}
 use Rattle.rules.specs.Audit.{Sound}
@@ -19,7 +19,7 @@ use Rattle.rules.proofs.Bytes.{record-length}
 use Rattle.rules.proofs.Places.{links-within, link-bytes}
 use Rattle.rules.proofs.Unlinked.{unlinked-byte}
 use Rattle.rules.proofs.Sound.{bind-both, head-room, required, whole-length, Head, head-used, Leads, ends, leads, Stored, Well, well-sound, sound-well}
-use Rattle.rules.proofs.Runs.{Runs, entryAt, runs-chain}
+use Rattle.rules.proofs.Runs.{Runs, runs-chain}
 use Rattle.rules.proofs.Append.{Appending, append-says, Owned, offset-owned, owned, writing, well-after, append-sound}
 use Rattle.rules.proofs.Read.{reads, read-runs, entriesOf, listed, listed-none, listed-runs, offset-none, new-unlinked, unlinked-kept, offset-kept, filedHere, listed-after}
 

@@ -8,7 +8,7 @@ use lib.Dec.{eqb, eqb→eq, ltb→lt, ltb}
 use lib.ListN.{length}
 use borrow.Author.Tests.{eqb-true, eqb-false, eq-eqb, ne-eqb, ltb-true}
 use Rattle.rules.specs.Outcome.{Outcome, refused, given, _>>=_, _>>_, require}
-use Rattle.rules.specs.Archive.{linkAt, kindOf, nextOf, recordAt, Entry, follow, chainFrom, chain}
+use Rattle.rules.specs.Archive.{linkAt, kindOf, nextOf, recordAt, Entry, entryAt, follow, chainFrom, chain}
 use Rattle.rules.proofs.Chains.{chain-ends, chain-goes, follow-met}
 use Rattle.rules.specs.Links.{Link, link, isKind, linksAt, ownedAt, standsAt, linkPlaces, namers}
 use Rattle.rules.specs.Filing.{lastPlace}
@@ -16,9 +16,6 @@ use Rattle.rules.proofs.Bytes.{link-of}
 use Rattle.rules.proofs.Lists.{in-keep, one-only}
 use Rattle.rules.proofs.Places.{stands-in, in-stands, next-in, Stands}
 use Rattle.rules.proofs.Sound.{bind-both, required, both, Leads, ends, leads, Stored, Well}
-
-abbrev pub entryAt : List ℕ → ℕ → Entry
-entryAt archive n = record { number = n; bytes = recordAt archive n }
 
 -- the place of the last link of a chain
 abbrev pub lastAt : ℕ → List ℕ → ℕ

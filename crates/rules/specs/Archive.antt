@@ -93,13 +93,17 @@ pub record Entry : Type 0 where
   pub number : ℕ
   pub bytes : List ℕ
 
+-- record n as it is met
+abbrev pub entryAt : List ℕ → ℕ → Entry
+entryAt archive n = record { number = n; bytes = recordAt archive n }
+
 module _ (archive : List ℕ) (used kind : ℕ) where
   -- a link that isn't zero, followed: it must be above its holder's own number and below U (2), then of the right kind (3)
   unfoldable pub follow : ℕ → ℕ → Outcome Entry
   follow holder link = do
     require (ltb holder link && ltb link used) badLink
     require (eqb (kindOf (recordAt archive link)) kind) wrongKind
-    given (record { number = link; bytes = recordAt archive link })
+    given (entryAt archive link)
 
   -- the record at a place of a chain, counted from 1; zero ends the chain, and a place that it doesn't have is refused as missing;
   -- at place 0 no link is followed

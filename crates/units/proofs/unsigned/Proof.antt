@@ -1,0 +1,13 @@
+-- `units::unsigned` meets its contract. Assumes nothing.
+use Rattle.units.proofs.Laws.{natural-cast, natural-is}
+use Rattle.units.proofs.unsigned.Statement.{statement}
+use Rattle.units.proofs.unsigned.Tie as tie
+
+cast-result : tie.Need-cast-result
+cast-result c = natural-cast (c .before .before .args .a .0) (c .struct-told .given .0 .1) (c .before .before .pre)
+
+returns : tie.Need-returns
+returns c = natural-is (c .before .before .args .a .0) (c .struct-told .given .0 .1) (c .before .before .pre)
+
+pub unsigned-spec : {M : Type 1} → statement M
+unsigned-spec = tie.close (tie.spec cast-result returns)
