@@ -26,3 +26,5 @@ pub mod Host
 pub mod PlacesOnChains
 pub mod Output
 pub mod Ranges
+pub mod Figures
+pub mod RaisedExample

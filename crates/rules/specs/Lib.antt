@@ -16,3 +16,4 @@ pub mod ReadBack
 pub mod Output
 pub mod Promises
 pub mod Demands
+pub mod Figures
