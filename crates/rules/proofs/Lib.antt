@@ -28,3 +28,5 @@ pub mod Output
 pub mod Ranges
 pub mod Figures
 pub mod RaisedExample
+pub mod Walks
+pub mod Folds

@@ -1,0 +1,313 @@
+-- What each answer of the code is, and what it says, over plain variables.
+use mathlib.Core.Path.{_≡_, refl, sym, _∙_, ap}
+use mathlib.Core.Bool.{true, false}
+use mathlib.Core.List.{List, _∷_}
+use mathlib.Core.Logic.{_⊎_, inl, inr}
+use Prim.Native.Nat.{ℕ, zero, suc, _+_, _*_, _-_, _/_, _≤_, _<_}
+use native.Mathlib.Omega.{arith}
+use lib.ListN.{length, take, drop}
+use borrow.Author.Tests.{le-leb, lt-leb, lt-ltb, le-ltb}
+use denote.Ref.{RefT}
+use denote.Enum.Declared.{tagOf, declared}
+use Rattle.rules.specs.Outcome.{Outcome, refused, given, _>>=_, _>>_, require}
+use Rattle.rules.specs.Refusals.{notArchive}
+use Rattle.rules.specs.Archive.{linkAt, nextOf, recordAt, isWhole, isText, usedOf, Entry, follow, atPlace, chain, entryAt}
+use Rattle.rules.specs.Filing.{lastPlace, isShown, shown}
+use Rattle.rules.specs.Promises.{Shows}
+use Rattle.rules.proofs.Bytes.{link-of}
+use Rattle.rules.proofs.Chains.{chain-ends, record-part}
+use Rattle.rules.proofs.Sound.{used-head, head-room}
+use Rattle.rules.proofs.Runs.{follow-says}
+use Rattle.rules.proofs.Walks.{chain-on, chain-refused, place-last, place-on, place-missing, place-refused, placed}
+use Rattle.archive.specs.declared.Head.{Head}
+use Rattle.archive.specs.declared.Head.the-variants as head
+use Rattle.archive.specs.declared.Link.{Link}
+use Rattle.archive.specs.declared.Link.the-variants as link
+use Rattle.archive.specs.declared.Reach.{Reach}
+use Rattle.archive.specs.declared.Reach.the-variants as reach
+use Rattle.archive.specs.declared.ChainEnd.{ChainEnd}
+use Rattle.archive.specs.declared.ChainEnd.the-variants as chainEnd
+use Rattle.archive.specs.Answers.{headAnswer, linkAnswer, reachAnswer, endAnswer, refusalOf}
+use Rattle.archive.proofs.Link.{enum}
+
+-- ---- the head
+
+module _ (a : List ℕ) where
+  pub head-size : isWhole (length a) ≡ false → head.Refused notArchive ≡ headAnswer (usedOf a)
+  unfolding usedOf _>>_ require
+  head-size s = rw s
+
+  module _ (size : isWhole (length a) ≡ true) where
+    pub head-text : isText (recordAt a 0) ≡ false → head.Refused notArchive ≡ headAnswer (usedOf a)
+    unfolding usedOf _>>_ require
+    head-text t = rw (size, t)
+
+    module _ (text : isText (recordAt a 0) ≡ true) (u : ℕ) (count : u ≡ linkAt (recordAt a 0) 4) where
+      pub head-none : u < 1 → head.Refused notArchive ≡ headAnswer (usedOf a)
+      unfolding usedOf _>>_ require
+      head-none h = rw (size, text, ← count, lt-leb 1 u h)
+
+      pub head-over : 1 ≤ u → length a / 32 < u → head.Refused notArchive ≡ headAnswer (usedOf a)
+      unfolding usedOf _>>_ require
+      head-over g h = rw (size, text, ← count, le-leb 1 u g, lt-leb u (length a / 32) h)
+
+      pub head-used : 1 ≤ u → u ≤ length a / 32 → head.Used u ≡ headAnswer (usedOf a)
+      unfolding usedOf _>>_ require
+      head-used g h = rw (size, text, ← count, le-leb 1 u g, le-leb u (length a / 32) h)
+
+  -- what an answer Used u says
+  pub record Opened (u : ℕ) : Type 0 where
+    pub is : usedOf a ≡ given u
+    pub some : 1 ≤ u
+    pub few : u < 65536
+    pub within : 32 * u ≤ length a
+
+  module _ (answer : Head) (e : answer ≡ headAnswer (usedOf a)) where
+    pub opened : (u : ℕ) → answer ≡ head.Used u → Opened u
+    opened u t = go (usedOf a) refl e
+      where
+        go : (o : Outcome ℕ) → usedOf a ≡ o → answer ≡ headAnswer o → Opened u
+        go (refused k) f b = let z : _≡_ {A = ℕ} 0 1 = cc in absurd (omega arith)
+        go (given v) f b =
+            let i : v ≡ u = cc in
+            let h = used-head a v f in
+            let r = head-room a v h in
+            record { is = f ∙ ap given i; some = omega arith; few = omega arith; within = omega arith }
+
+    pub unopened : (n : ℕ) → answer ≡ head.Refused n → usedOf a ≡ refused n
+    unopened n t = go (usedOf a) e
+      where
+        go : (o : Outcome ℕ) → answer ≡ headAnswer o → o ≡ refused n
+        go (refused k) b = cc
+        go (given v) b = let z : _≡_ {A = ℕ} 0 1 = cc in absurd (omega arith)
+
+-- ---- the answer to a link
+
+pub answer-refused : (l : ℕ) (o : Outcome Entry) (n : ℕ) → (l ≡ 0 → ⊥) → o ≡ refused n → link.Refused n ≡ linkAnswer l o
+answer-refused zero o n z e = absurd (z refl)
+answer-refused (suc l) o n z e = rw e
+
+pub answer-given : (l : ℕ) (o : Outcome Entry) (e : Entry) → (l ≡ 0 → ⊥) → o ≡ given e → link.At (e .number) ≡ linkAnswer l o
+answer-given zero o e z f = absurd (z refl)
+answer-given (suc l) o e z f = rw f
+
+pub link-given : (l : ℕ) (o : Outcome Entry) (n : ℕ) → link.At n ≡ linkAnswer l o → (e : Entry) × (o ≡ given e) × (e .number ≡ n)
+link-given zero o n b = let z : _≡_ {A = ℕ} 0 1 = cc in absurd (omega arith)
+link-given (suc l) (refused k) n b = let z : _≡_ {A = ℕ} 0 1 = cc in absurd (omega arith)
+link-given (suc l) (given e) n b = (e, refl, cc)
+
+pub link-ended : (l : ℕ) (o : Outcome Entry) → link.End ≡ linkAnswer l o → l ≡ 0
+link-ended zero o b = refl
+link-ended (suc l) (refused k) b = let z : _≡_ {A = ℕ} 0 1 = cc in absurd (omega arith)
+link-ended (suc l) (given e) b = let z : _≡_ {A = ℕ} 0 1 = cc in absurd (omega arith)
+
+pub link-refused : (l : ℕ) (o : Outcome Entry) (n : ℕ) → link.Refused n ≡ linkAnswer l o → (l ≡ 0 → ⊥) × (o ≡ refused n)
+link-refused zero o n b = let z : _≡_ {A = ℕ} 0 1 = cc in absurd (omega arith)
+link-refused (suc l) (refused k) n b = ((λ z. omega arith), cc)
+link-refused (suc l) (given e) n b = let z : _≡_ {A = ℕ} 0 1 = cc in absurd (omega arith)
+
+-- an answer that leads to no record
+abbrev pub NoAt : Link → Type 0
+NoAt (link.At n) = ⊥
+NoAt link.End = Unit {0}
+NoAt (link.Refused n) = Unit {0}
+
+-- the `else` of `let Link::At(n) = answer`
+pub no-at : (answer : Link) → (tagOf (declared enum) answer ≡ 1) ⊎ (tagOf (declared enum) answer ≡ 2) → NoAt answer
+no-at (link.At n) (inl e) = omega arith
+no-at (link.At n) (inr e) = omega arith
+no-at link.End w = tt
+no-at (link.Refused n) w = tt
+
+-- ---- a step of a walk, by the answer to the link at hand
+
+module _ (archive : List ℕ) (used kind holder l : ℕ) where
+  -- what an answer At n says: n can be followed, links rise, and the record lies in the archive's used part
+  pub record Met (n : ℕ) : Type 0 where
+    pub is : follow archive used kind holder l ≡ given (entryAt archive n)
+    pub rises : holder < n
+    pub below : n < used
+
+  module _ (answer : Link) (a : answer ≡ linkAnswer l (follow archive used kind holder l)) where
+    pub met : (n : ℕ) → answer ≡ link.At n → Met n
+    met n t =
+        let g = link-given l (follow archive used kind holder l) n (sym t ∙ a) in
+        let s = follow-says archive used kind holder l (g .0) (g .1) in
+        let i : l ≡ n = ap (λ e. e .number) (s .3) ∙ g .2 in
+        record {
+          is = g .1 ∙ ap given (sym (s .3) ∙ ap (entryAt archive) i);
+          rises = omega (arith, s .0);
+          below = omega (arith, s .1);
+        }
+
+    -- a link that isn't zero and leads to no record refuses the chain
+    pub chain-none : NoAt answer → (l ≡ 0 → ⊥) → chain archive used kind holder l ≡ refused (refusalOf answer 0)
+    chain-none none z = go answer a none
+      where
+        go : (x : Link) → x ≡ linkAnswer l (follow archive used kind holder l) → NoAt x → chain archive used kind holder l ≡ refused (refusalOf x 0)
+        go (link.At n) b w = absurd w
+        go link.End b w = absurd (z (link-ended l (follow archive used kind holder l) b))
+        go (link.Refused n) b w = chain-refused archive used kind holder l n z (link-refused l (follow archive used kind holder l) n b .1)
+
+    -- any link that leads to no record refuses the walk to a place
+    pub place-none : NoAt answer → (missing place : ℕ) → atPlace archive used kind missing (suc place) holder l ≡ refused (refusalOf answer missing)
+    place-none none missing place = go answer a none
+      where
+        go : (x : Link) → x ≡ linkAnswer l (follow archive used kind holder l) → NoAt x
+            → atPlace archive used kind missing (suc place) holder l ≡ refused (refusalOf x missing)
+        go (link.At n) b w = absurd w
+        go link.End b w = place-missing archive used kind holder l missing (suc place) (link-ended l (follow archive used kind holder l) b)
+        go (link.Refused n) b w =
+            let r = link-refused l (follow archive used kind holder l) n b in
+            place-refused archive used kind holder l missing place n (r .0) (r .1)
+
+  -- the record at a place, met there by the last link
+  pub place-met : (n missing place links : ℕ) → Met n → links ≡ place
+      → atPlace archive used kind missing (suc (place - links)) holder l ≡ given (entryAt archive n)
+  place-met n missing place links m h =
+      let s : place - links ≡ 0 = omega arith in
+      rw s (place-last archive used kind holder l missing (entryAt archive n) (m .is))
+
+  -- on to the record's next link
+  module _ (n next : ℕ) (m : Met n) (e : next ≡ nextOf (recordAt archive n)) where
+    pub chain-met : chain archive used kind holder l ≡ (chain archive used kind n next >>= λ es. given (entryAt archive n ∷ es))
+    chain-met = rw e (chain-on archive used kind holder l (entryAt archive n) (m .is))
+
+    pub place-turn : (missing place links : ℕ) → links < place
+        → atPlace archive used kind missing (suc (place - links)) holder l ≡ atPlace archive used kind missing (suc (place - (links + 1))) n next
+    place-turn missing place links h =
+        let s : place - links ≡ suc (place - (links + 1)) = omega arith in
+        rw (s, e) (place-on archive used kind holder l missing (place - (links + 1)) (entryAt archive n) (m .is))
+
+-- ---- to a place
+
+pub reach-refused : (place : ℕ) (o : Outcome Entry) (n r : ℕ) → o ≡ refused n → r ≡ n → reach.Refused r ≡ reachAnswer place o
+reach-refused place o n r e f = rw (e, f)
+
+pub reach-given : (place : ℕ) (o : Outcome Entry) (e : Entry) (links : ℕ) → o ≡ given e → links ≡ place → reach.At (e .number) links ≡ reachAnswer place o
+reach-given place o e links f h = rw (f, h)
+
+module _ (archive : List ℕ) (used kind missing place holder l : ℕ) where
+  pub place-zero : place ≡ 0 → atPlace archive used kind missing place holder l ≡ refused missing
+  place-zero z = rw z
+
+  pub place-starts : (place ≡ 0 → ⊥)
+      → atPlace archive used kind missing place holder l ≡ atPlace archive used kind missing (suc (place - 1)) holder l
+  place-starts z = let s : suc (place - 1) ≡ place = omega arith in rw s
+
+  -- what an answer At n links says
+  pub record Reached (n links : ℕ) : Type 0 where
+    pub is : atPlace archive used kind missing place holder l ≡ given (entryAt archive n)
+    pub counted : links ≡ place
+    pub far : holder + place ≤ n
+    pub below : n < used
+
+  module _ (answer : Reach) (a : answer ≡ reachAnswer place (atPlace archive used kind missing place holder l)) where
+    pub reached : (n links : ℕ) → answer ≡ reach.At n links → Reached n links
+    reached n links t = go (atPlace archive used kind missing place holder l) refl a
+      where
+        go : (o : Outcome Entry) → atPlace archive used kind missing place holder l ≡ o → answer ≡ reachAnswer place o → Reached n links
+        go (refused k) f b = let z : _≡_ {A = ℕ} 0 1 = cc in absurd (omega arith)
+        go (given e) f b =
+            let i : e .number ≡ n = cc in
+            let p = placed archive used kind missing place holder l e f in
+            record {
+              is = f ∙ ap given (sym (p .is) ∙ ap (entryAt archive) i);
+              counted = cc;
+              far = omega arith;
+              below = omega arith;
+            }
+
+    pub unreached : (n : ℕ) → answer ≡ reach.Refused n → atPlace archive used kind missing place holder l ≡ refused n
+    unreached n t = go (atPlace archive used kind missing place holder l) a
+      where
+        go : (o : Outcome Entry) → answer ≡ reachAnswer place o → o ≡ refused n
+        go (refused k) b = cc
+        go (given e) b = let z : _≡_ {A = ℕ} 0 1 = cc in absurd (omega arith)
+
+-- ---- to the end
+
+-- the answer of a walk that has followed so many links and stands before the link at this place
+abbrev pub endFrom : ℕ → ℕ → Outcome (List Entry) → ChainEnd
+endFrom place links (refused n) = chainEnd.Refused n
+endFrom place links (given es) = chainEnd.At (lastPlace place es) (links + length es)
+
+no-links : (place : ℕ) (o : Outcome (List Entry)) → endAnswer place o ≡ endFrom place 0 o
+no-links place (refused n) = refl
+no-links place (given es) = let s : 0 + length es ≡ length es = omega arith in rw s
+
+pub end-starts : (archive : List ℕ) (used kind holder offset l : ℕ) → offset + 4 ≤ 32 → l ≡ linkAt (recordAt archive holder) offset
+    → endAnswer (32 * holder + offset) (chain archive used kind holder (linkAt archive (32 * holder + offset)))
+    ≡ endFrom (32 * holder + offset) 0 (chain archive used kind holder l)
+end-starts archive used kind holder offset l h e =
+    rw (e, link-of archive holder offset h)
+    (no-links (32 * holder + offset) (chain archive used kind holder (linkAt archive (32 * holder + offset))))
+
+one-on : (place links : ℕ) (e : Entry) (o : Outcome (List Entry))
+    → endFrom place links (o >>= λ es. given (e ∷ es)) ≡ endFrom (32 * (e .number) + 4) (links + 1) o
+unfolding _>>=_
+one-on place links e (refused n) = refl
+one-on place links e (given es) = let s : links + suc (length es) ≡ links + 1 + length es = omega arith in rw s
+
+module _ (archive : List ℕ) (used kind holder l place links : ℕ) where
+  pub end-turn : (n next : ℕ) → Met archive used kind holder l n → next ≡ nextOf (recordAt archive n)
+      → endFrom place links (chain archive used kind holder l) ≡ endFrom (32 * n + 4) (links + 1) (chain archive used kind n next)
+  end-turn n next m e =
+      ap (endFrom place links) (chain-met archive used kind holder l n next m e)
+      ∙ one-on place links (entryAt archive n) (chain archive used kind n next)
+
+  pub end-refused : (n r : ℕ) → chain archive used kind holder l ≡ refused n → r ≡ n → chainEnd.Refused r ≡ endFrom place links (chain archive used kind holder l)
+  end-refused n r e f = rw (e, f)
+
+  pub end-done : l ≡ 0 → chainEnd.At place links ≡ endFrom place links (chain archive used kind holder l)
+  end-done z = let s : links + 0 ≡ links = omega arith in rw (chain-ends archive used kind holder l z, s)
+
+module _ (place : ℕ) (o : Outcome (List Entry)) where
+  -- what an answer At last links says
+  pub record Ended (last links : ℕ) : Type 0 where
+    pub entries : List Entry
+    pub is : o ≡ given entries
+    pub stands : last ≡ lastPlace place entries
+    pub counted : links ≡ length entries
+
+  module _ (answer : ChainEnd) (a : answer ≡ endAnswer place o) where
+    pub ended : (last links : ℕ) → answer ≡ chainEnd.At last links → Ended last links
+    ended last links t = go o refl a
+      where
+        go : (x : Outcome (List Entry)) → o ≡ x → answer ≡ endAnswer place x → Ended last links
+        go (refused k) f b = let z : _≡_ {A = ℕ} 0 1 = cc in absurd (omega arith)
+        go (given es) f b = record { entries = es; is = f; stands = cc; counted = cc }
+
+    pub unended : (n : ℕ) → answer ≡ chainEnd.Refused n → o ≡ refused n
+    unended n t = go o a
+      where
+        go : (x : Outcome (List Entry)) → answer ≡ endAnswer place x → x ≡ refused n
+        go (refused k) b = cc
+        go (given es) b = let z : _≡_ {A = ℕ} 0 1 = cc in absurd (omega arith)
+
+-- ---- show
+
+module _ (archive : RefT (List ℕ)) (n : ℕ) (part : RefT (List ℕ)) (block : part .ptr .0 ≡ archive .ptr .0) where
+  pub shows-part : (u : ℕ) → usedOf (archive .now) ≡ given u → n < u → part .now ≡ take (32 * n + 32 - 32 * n) (drop (32 * n) (archive .now))
+      → part .ptr .1 ≡ 32 * n + archive .ptr .1 → Shows archive n part
+  unfolding shown
+  shows-part u e h content offset = record {
+    content = content ∙ rw (e, lt-ltb n u h) (record-part (archive .now) n);
+    block = block;
+    offset = offset ∙ rw (e, lt-ltb n u h) (omega arith);
+  }
+
+  module _ (content : part .now ≡ take 0 (drop 0 (archive .now))) (offset : part .ptr .1 ≡ 0 + archive .ptr .1) where
+    shows-empty : isShown (usedOf (archive .now)) n ≡ false → Shows archive n part
+    unfolding shown
+    shows-empty f = record {
+      content = content ∙ rw f;
+      block = block;
+      offset = offset ∙ rw f (omega arith);
+    }
+
+    pub shows-past : (u : ℕ) → usedOf (archive .now) ≡ given u → u ≤ n → Shows archive n part
+    shows-past u e h = shows-empty (rw (e, le-ltb n u h))
+
+    pub shows-refused : (k : ℕ) → usedOf (archive .now) ≡ refused k → Shows archive n part
+    shows-refused k e = shows-empty (rw (e, le-ltb n 0 (omega arith)))

@@ -1,0 +1,84 @@
+-- `archive::read_head` meets its contract.
+use mathlib.Core.Logic.{⊎-elim}
+use mathlib.Core.Path.{sym, _∙_}
+use native.Mathlib.Omega.{arith}
+use lib.ListN.{length}
+use borrow.Author.Tests.{not-true, not-false, ltb-true, ltb-false}
+use borrow.Author.Needs.{needs}
+use Rattle.rules.specs.Archive.{recordAt}
+use Rattle.rules.proofs.Sound.{whole-length}
+use Rattle.archive.proofs.Laws.{head-size, head-text, head-none, head-over, head-used}
+use Rattle.archive.proofs.read_head.Statement.{statement}
+use Rattle.archive.proofs.read_head.Tie as tie
+
+is-whole-requires : tie.Need-is-whole-requires
+is-whole-requires c κs = search needs
+
+returns : tie.Need-returns
+returns c = head-size _ (sym (c .before .is-whole .ensures) ∙ not-true _ (c .if1 .taken))
+
+sub-is-text : tie.Need-sub-is-text
+sub-is-text c = search needs
+
+part-is-text-start : tie.Need-part-is-text-start
+part-is-text-start c = search needs
+
+part-is-text-end : tie.Need-part-is-text-end
+part-is-text-end c =
+    let a = c .before .before .before .args .archive .now in
+    let size = sym (c .before .is-whole .ensures) ∙ not-false _ (c .if1 .left) in
+    let w = whole-length (length a) size in
+    omega arith
+
+is-text-requires : tie.Need-is-text-requires
+is-text-requires c κs = search needs
+
+returns-2 : tie.Need-returns-2
+unfolding recordAt
+returns-2 c =
+    let a = c .before .before .before .before .before .before .args .archive .now in
+    let size = sym (c .before .before .before .before .is-whole .ensures) ∙ not-false _ (c .before .before .before .if1 .left) in
+    head-text a size (sym (c .before .is-text .ensures) ∙ not-true _ (c .if2 .taken))
+
+link-of-requires : tie.Need-link-of-requires
+link-of-requires c κs =
+    let a = c .before .before .before .before .before .before .args .archive .now in
+    let size = sym (c .before .before .before .before .is-whole .ensures) ∙ not-false _ (c .before .before .before .if1 .left) in
+    let w = whole-length (length a) size in
+    omega arith
+
+returns-3 : tie.Need-returns-3
+unfolding recordAt
+returns-3 c =
+    let a = c .before .before .before .before .before .before .before .before .args .archive .now in
+    let size = sym (c .before .before .before .before .before .before .is-whole .ensures) ∙ not-false _ (c .before .before .before .before .before .if1 .left) in
+    let text = sym (c .before .before .before .is-text .ensures) ∙ not-false _ (c .before .before .if2 .left) in
+    let l = c .before .link-of in
+    ⊎-elim
+    (λ w. head-none a size text (l .result) (l .ensures .0) (omega arith))
+    (λ w. head-over a size text (l .result) (l .ensures .0) (omega arith) (omega (arith, ltb-true)))
+    (c .if3 .came)
+
+returns-4 : tie.Need-returns-4
+unfolding recordAt
+returns-4 c =
+    let a = c .before .before .before .before .before .before .before .before .before .args .archive .now in
+    let size = sym (c .before .before .before .before .before .before .before .is-whole .ensures) ∙ not-false _ (c .before .before .before .before .before .before .if1 .left) in
+    let text = sym (c .before .before .before .before .is-text .ensures) ∙ not-false _ (c .before .before .before .if2 .left) in
+    let l = c .before .before .link-of in
+    head-used a size text (l .result) (l .ensures .0) (omega arith) (omega (arith, ltb-false))
+
+pub read-head-spec : {M : Type 1} → statement M
+read-head-spec =
+    tie.close
+    (tie.spec
+    is-whole-requires
+    returns
+    sub-is-text
+    part-is-text-start
+    part-is-text-end
+    is-text-requires
+    returns-2
+    link-of-requires
+    returns-3
+    returns-4)

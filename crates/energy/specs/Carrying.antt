@@ -1,0 +1,11 @@
+-- The carry of a measure (01, 'Amounts'): what booking one exact magnitude gives, and what it leaves to carry.
+use Prim.Native.Nat.{ℕ, _+_, _/_, _%_}
+use Rattle.energy.specs.declared.carry.Carry.{Carry}
+use Rattle.energy.specs.declared.carry.Booked.{Booked}
+
+-- the whole Wh that the remainder and the magnitude make, and the remainder that is left
+abbrev pub bookedOf : Carry → ℕ → Booked
+bookedOf c magnitude = record {
+  amount = (c .remainder + magnitude) / c .denominator;
+  carry = record { remainder = (c .remainder + magnitude) % c .denominator; denominator = c .denominator };
+}

@@ -1,0 +1,93 @@
+// The carry of a measure, lent to the booking step and updated there quarter by quarter (01, 'Amounts').
+ghost use mathlib.Core.Path.{_≡_};
+ghost use Prim.Native.Nat.{_<_, _≤_, _/_, _^_};
+ghost use mathlib.Core.List.{_++_};
+ghost use lib.ListN.{length, drop};
+ghost use Rattle.rules.specs.Numbers.{sum, sumℤ};
+ghost use Rattle.rules.specs.Booking.{signed as signedOf, amountsOf};
+ghost use Rattle.energy.specs.Carrying.{bookedOf};
+use rules::Direction;
+
+// What is carried on to the next quarter, less than 1 Wh: `remainder` over `denominator`.
+pub struct Carry {
+    pub remainder: u64,
+    pub denominator: u64,
+}
+
+pub struct Booked {
+    pub amount: u64,
+    pub carry: Carry,
+}
+
+// One magnitude booked, by value. The division is the magnitude's alone, so that it doesn't wait for the quarter before.
+pub fn booking(c: Carry, magnitude: u64) -> Booked
+    requires { ⌜ (c .remainder < c .denominator) × (c .denominator ≤ 2 ^ 63) ⌝ }
+    ensures { λ r. ⌜ r ≡ bookedOf c magnitude ⌝ }
+{
+    let d = c.denominator;
+    let whole = magnitude / d;
+    let rest = c.remainder + magnitude % d;
+    if rest < d {
+        let carry = Carry {
+            remainder: rest,
+            denominator: d,
+        };
+        Booked {
+            amount: whole,
+            carry,
+        }
+    } else {
+        let carry = Carry {
+            remainder: rest - d,
+            denominator: d,
+        };
+        Booked {
+            amount: whole + 1,
+            carry,
+        }
+    }
+}
+
+// The carry is lent and updated.
+pub fn book(c: &mut Carry, magnitude: u64) -> u64
+    requires { ⌜ (now c .remainder < now c .denominator) × (now c .denominator ≤ 2 ^ 63) ⌝ }
+    ensures { λ r. ⌜ (r ≡ bookedOf (now (c .entry)) magnitude .amount)
+        × (now (c .exit) ≡ bookedOf (now (c .entry)) magnitude .carry) ⌝ }
+{
+    let b = booking(*c, magnitude);
+    *c = b.carry;
+    b.amount
+}
+
+// Minus for the positive direction.
+pub fn signed(direction: Direction, amount: u64) -> i64
+    requires { ⌜ amount < 2 ^ 63 ⌝ }
+    ensures { λ r. ⌜ r ≡ signedOf direction amount ⌝ }
+{
+    let a = amount as i64;
+    match direction {
+        Direction::Positive => -a,
+        Direction::Negative => a,
+    }
+}
+
+// The amounts of a sheet of exact magnitudes, into the list's first places, and their total.
+pub fn book_all(direction: Direction, denominator: u64, sheet: &[u64], list: &mut [i64]) -> i64
+    requires { ⌜ (0 < denominator) × (denominator ≤ 2 ^ 63) × (sum (now sheet) / denominator < 2 ^ 63) × (length (now sheet) ≤ length (now list)) ⌝ }
+    ensures { λ r. ⌜ (now (list .exit) ≡ amountsOf direction denominator (now (sheet .entry)) ++ drop (length (now (sheet .entry))) (now (list .entry)))
+        × (r ≡ sumℤ (amountsOf direction denominator (now (sheet .entry)))) ⌝ }
+{
+    let mut carry = Carry {
+        remainder: 0,
+        denominator,
+    };
+    let mut total: u64 = 0;
+    let mut i: usize = 0;
+    while i < sheet.len() {
+        let amount = book(&mut carry, sheet[i]);
+        list[i] = signed(direction, amount);
+        total += amount;
+        i += 1;
+    }
+    signed(direction, total)
+}
