@@ -212,7 +212,7 @@ module _ (archive : List ℕ) (used kind missing place holder l : ℕ) where
             let i : e .number ≡ n = cc in
             let p = placed archive used kind missing place holder l e f in
             record {
-              is = f ∙ ap given (sym (p .is) ∙ ap (entryAt archive) i);
+              is = f ∙ ap given (p .is ∙ ap (entryAt archive) i);
               counted = cc;
               far = omega arith;
               below = omega arith;

@@ -1,13 +1,14 @@
 -- Demand 1: every call gives an answer or a refusal with one of its own numbers, and a refused call changes nothing.
 use mathlib.Core.Path.{_≡_, refl, sym, _∙_, ap, subst}
-use mathlib.Core.Bool.{Bool, true, false, cond}
+use mathlib.Core.Bool.{Bool, true, false, cond, _||_, false≢true}
 use mathlib.Core.List.{List, [], _∷_}
 use Prim.Native.Nat.{ℕ, zero, suc}
+use borrow.Author.Tests.{eqb-true}
 use lib.Dec.{eqb}
 use lib.IntN.{ℤ}
 use lib.ListN.{length}
 use Rattle.rules.specs.Outcome.{Outcome, refused, given, _>>=_, _>>_, require, numberOf, after}
-use Rattle.rules.specs.Refusals.{badLink, wrongKind, settleRefusals, appendRefusals, auditRefusals}
+use Rattle.rules.specs.Refusals.{notArchive, badLink, wrongKind, settleRefusals, appendRefusals, auditRefusals}
 use Rattle.rules.specs.Numbers.{member}
 use Rattle.rules.specs.Archive.{linkAt, usedOf, nextOf, Entry, follow, atPlace, chainFrom, chain}
 use Rattle.rules.specs.Terms.{Technology, wind, solar, other, Variant, spitz, pauschal, Point, Before}
@@ -82,6 +83,14 @@ module _ {ns : List ℕ} where
     within-chain : (holder link : ℕ) → RefusedWithin ns (chain archive used kind holder link)
     unfolding chain
     within-chain holder link = within-steps used holder link
+
+-- a refused head is 1
+pub used-refused : (archive : List ℕ) (n : ℕ) → usedOf archive ≡ refused n → n ≡ notArchive
+used-refused archive n e = go (eqb n notArchive) refl (within-used {ns = notArchive ∷ []} refl archive .of n e)
+  where
+    go : (t : Bool) → eqb n notArchive ≡ t → (t || false) ≡ true → n ≡ notArchive
+    go true q m = eqb-true n notArchive q
+    go false q m = absurd (false≢true m)
 
 -- ---- settle
 

@@ -53,8 +53,9 @@ module _ (archive : List ℕ) (used kind holder link : ℕ) where
 module _ (archive : List ℕ) (used kind : ℕ) where
   -- a record found at a place of a chain: links rise, so its number is above its holder's by the place or more
   pub record Placed (holder place : ℕ) (e : Entry) : Type 0 where
-    pub is : entryAt archive (e .number) ≡ e
-    pub far : holder + place ≤ e .number
+    pub is : e ≡ entryAt archive (e .number)
+    pub some : 1 ≤ place
+    pub above : holder + place ≤ e .number
     pub below : e .number < used
 
   first-placed : (holder link : ℕ) (e : Entry) → follow archive used kind holder link ≡ given e → Placed holder 1 e
@@ -62,8 +63,9 @@ module _ (archive : List ℕ) (used kind : ℕ) where
       let s = follow-says archive used kind holder link e f in
       let i : link ≡ e .number = ap (λ x. x .number) (s .3) in
       record {
-        is = ap (entryAt archive) (sym i) ∙ s .3;
-        far = omega (arith, s .0);
+        is = sym (s .3) ∙ ap (entryAt archive) i;
+        some = omega arith;
+        above = omega (arith, s .0);
         below = omega (arith, s .1);
       }
 
@@ -85,4 +87,4 @@ module _ (archive : List ℕ) (used kind : ℕ) where
           let b = bind-both (follow archive used kind holder link) _ q in
           let f = first-placed holder link (b .0) (b .1) in
           let r = rest (b .0 .number) (nextOf (b .0 .bytes)) e (b .2) in
-          record { is = r .is; far = omega arith; below = r .below }
+          record { is = r .is; some = omega arith; above = omega arith; below = r .below }

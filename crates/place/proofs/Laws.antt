@@ -1,0 +1,250 @@
+-- What a place of the code is and says, over plain variables.
+use mathlib.Core.Path.{_≡_, refl, sym, _∙_, ap, ap₂, subst}
+use mathlib.Core.Bool.{Bool, true, false, _&&_}
+use mathlib.Core.List.{List}
+use Prim.Native.Nat.{ℕ, _+_, _*_, _-_, _≤_, _<_}
+use native.Mathlib.Omega.{arith}
+use lib.Dec.{leb}
+use lib.IntN.{ℤ, pos}
+use lib.ListN.{take, drop}
+use Rattle.rules.specs.Outcome.{Outcome, refused, given, _>>=_, _>>_, require}
+use Rattle.rules.specs.Refusals.{notArchive, noPlant, noMeasure, badPlant, badMeasure}
+use Rattle.rules.specs.Numbers.{orZero}
+use Rattle.rules.specs.Archive.{byteAt, linkAt, twos, fieldAt, recordAt, usedOf, Entry, entryAt, atPlace, plantKind, measureKind}
+use Rattle.rules.specs.Terms.{isNominalPower, nominalPower, plantAllowed, measureAllowed}
+use Rattle.rules.specs.Settle as settle
+use Rattle.rules.specs.Settle.{placeOf}
+use Rattle.rules.proofs.Chains.{record-part}
+use Rattle.rules.proofs.Ranges.{within-natural}
+use Rattle.rules.proofs.Refusals.{used-refused}
+use Rattle.rules.proofs.Walks as walks
+use Rattle.rules.proofs.Sound.{both, bind-both, required, used-head, head-room}
+use Rattle.archive.specs.Answers.{reachAnswer}
+use Rattle.archive.specs.declared.Reach.{Reach}
+use Rattle.archive.specs.declared.Reach.the-variants as reach
+use Rattle.place.specs.declared.Place.{Place}
+use Rattle.place.specs.declared.Placed.{Placed}
+use Rattle.place.specs.declared.Placed.the-variants.{At, Refused}
+use Rattle.place.specs.Places.{meant, Lies, numbersOf, placedAnswer, reachRefusal, plantAt, measureAt, admitted, placeUnder}
+
+-- ---- Pn
+
+-- a field, from its word
+pub field-is : (r : List ℕ) (at word : ℕ) (z : ℤ) → z ≡ twos word → word ≡ linkAt r at → z ≡ fieldAt r at
+unfolding fieldAt
+field-is r at word z a b = a ∙ ap twos b
+
+-- of a plant that refusal 6 lets pass
+module _ (plant : List ℕ) (allowed : plantAllowed plant ≡ true) (z : ℤ) (is : z ≡ fieldAt plant 16) where
+  in-range : (z ≡ pos (orZero z)) × (100000 ≤ orZero z) × (orZero z ≤ 1000000000)
+  unfolding plantAllowed
+  in-range =
+      within-natural 100000 1000000000 z
+      (ap isNominalPower is
+      ∙ both (leb 1 (byteAt plant 1) && leb (byteAt plant 1) 3 && (leb 1 (byteAt plant 2) && leb (byteAt plant 2) 2)) _ allowed .1)
+
+  pub nominal-natural : z ≡ pos (orZero z)
+  nominal-natural = in-range .0
+
+  pub nominal-is : (n : ℕ) → n ≡ orZero z → (n ≡ nominalPower plant) × (n ≤ 1000000000)
+  nominal-is n e = (e ∙ ap orZero is, let r = in-range in omega arith)
+
+-- ---- the answer of a walk to a place
+
+module _ (archive : List ℕ) (used kind missing place holder link : ℕ) where
+  -- what an answer At n links says
+  pub record Walked (n links : ℕ) : Type 0 where
+    pub is : atPlace archive used kind missing place holder link ≡ given (entryAt archive n)
+    pub count : links ≡ place
+    pub above : holder + place ≤ n
+    pub below : n < used
+
+  pub walked : (answer : Reach) (n links : ℕ) → answer ≡ reachAnswer place (atPlace archive used kind missing place holder link) → answer ≡ reach.At n links
+      → Walked n links
+  walked answer n links a t = go (atPlace archive used kind missing place holder link) refl (sym t ∙ a)
+    where
+      go : (o : Outcome Entry) → atPlace archive used kind missing place holder link ≡ o → reach.At n links ≡ reachAnswer place o → Walked n links
+      go (refused m) f b = let z : _≡_ {A = ℕ} 0 1 = cc in absurd (omega arith)
+      go (given e) f b =
+          let i : e .number ≡ n = cc in
+          let c : links ≡ place = cc in
+          let r = walks.placed archive used kind missing place holder link e f in
+          record { is = f ∙ ap given (r .is ∙ ap (entryAt archive) i); count = c; above = omega arith; below = omega arith }
+
+-- the chain starts at the link that the code has read
+pub walk-from : (archive : List ℕ) (used kind missing place holder first link : ℕ) (answer : Reach)
+    → answer ≡ reachAnswer place (atPlace archive used kind missing place holder first) → first ≡ link
+    → answer ≡ reachAnswer place (atPlace archive used kind missing place holder link)
+walk-from archive used kind missing place holder first link answer a e = rw (← e) a
+
+-- a refused walk, with the number that the code takes from its answer
+pub unwalked : (place : ℕ) (o : Outcome Entry) (answer : Reach) (n : ℕ) → answer ≡ reachAnswer place o → answer ≡ reach.Refused n
+    → o ≡ refused (reachRefusal answer)
+unwalked place o answer n a t = rw t (go o (sym t ∙ a))
+  where
+    go : (o : Outcome Entry) → reach.Refused n ≡ reachAnswer place o → o ≡ refused n
+    go (refused m) b = cc
+    go (given e) b = let z : _≡_ {A = ℕ} 0 1 = cc in absurd (omega arith)
+
+-- ---- 6, 7
+
+-- the tests of the records' own 32 bytes
+pub plant-tested : (archive : List ℕ) (n : ℕ) (t u : Bool) → t ≡ plantAllowed (take (32 * n + 32 - 32 * n) (drop (32 * n) archive)) → t ≡ u
+    → plantAllowed (recordAt archive n) ≡ u
+plant-tested archive n t u a e = rw (← record-part archive n) (sym a ∙ e)
+
+pub measure-tested : (archive : List ℕ) (n m : ℕ) (t u : Bool)
+    → t ≡ measureAllowed (take (32 * n + 32 - 32 * n) (drop (32 * n) archive)) (take (32 * m + 32 - 32 * m) (drop (32 * m) archive)) → t ≡ u
+    → measureAllowed (recordAt archive n) (recordAt archive m) ≡ u
+measure-tested archive n m t u a e = rw (← record-part archive n, ← record-part archive m) (sym a ∙ e)
+
+module _ (archive : List ℕ) (place : Place) where
+  pub admit-plant : plantAllowed (recordAt archive (place .plant)) ≡ false → Refused badPlant ≡ placedAnswer (admitted (meant archive place))
+  unfolding admitted _>>_ require
+  admit-plant f = rw f
+
+  module _ (plant : plantAllowed (recordAt archive (place .plant)) ≡ true) where
+    pub admit-measure : measureAllowed (recordAt archive (place .plant)) (recordAt archive (place .measure)) ≡ false
+        → Refused badMeasure ≡ placedAnswer (admitted (meant archive place))
+    unfolding admitted _>>_ require
+    admit-measure f = rw (plant, f)
+
+    pub admit-both : measureAllowed (recordAt archive (place .plant)) (recordAt archive (place .measure)) ≡ true
+        → At place ≡ placedAnswer (admitted (meant archive place))
+    unfolding admitted _>>_ require
+    admit-both t = rw (plant, t)
+
+-- ---- the parts of `placeOf`, by the answers that the code was given
+
+module _ (archive : List ℕ) (used plant links k : ℕ) where
+  pub under-refused : (n r : ℕ) → measureAt archive used (entryAt archive plant) k ≡ refused n → r ≡ n
+      → Refused r ≡ placedAnswer (placeUnder archive used (entryAt archive plant) links k)
+  unfolding placeUnder _>>=_
+  under-refused n r f i = rw (f, i)
+
+  pub under-found : (measure sum : ℕ) (answer : Placed) → measureAt archive used (entryAt archive plant) k ≡ given (entryAt archive measure) → sum ≡ links + k
+      → answer ≡ placedAnswer (admitted (meant archive (record { used = used; plant = plant; measure = measure; links = sum })))
+      → answer ≡ placedAnswer (placeUnder archive used (entryAt archive plant) links k)
+  unfolding placeUnder _>>=_
+  under-found measure sum answer f h a = rw (f, ← h) a
+
+module _ (archive : List ℕ) (p k : ℕ) where
+  pub find-unopened : (n : ℕ) → usedOf archive ≡ refused n → Refused notArchive ≡ placedAnswer (placeOf archive p k)
+  unfolding placeOf _>>=_
+  find-unopened n f = rw (f, used-refused archive n f)
+
+  module _ (used : ℕ) (head : usedOf archive ≡ given used) where
+    pub find-refused : (n r : ℕ) → plantAt archive used p ≡ refused n → r ≡ n → Refused r ≡ placedAnswer (placeOf archive p k)
+    unfolding placeOf _>>=_
+    find-refused n r f i = rw (head, f, i)
+
+    pub find-under : (plant links : ℕ) (answer : Placed) → plantAt archive used p ≡ given (entryAt archive plant) → links ≡ p
+        → answer ≡ placedAnswer (placeUnder archive used (entryAt archive plant) links k) → answer ≡ placedAnswer (placeOf archive p k)
+    unfolding placeOf placeUnder admitted _>>=_
+    find-under plant links answer f h a = rw (head, f, ← h) a
+
+-- ---- what a place that was found is, for callers
+
+module _ (archive : List ℕ) (p k : ℕ) where
+  -- what each part of `placeOf` gave
+  record Parts (place : settle.Place) : Type 0 where
+    head : usedOf archive ≡ given (place .used)
+    plant-reached : walks.Placed archive (place .used) plantKind 0 p (place .plant)
+    measure-reached : walks.Placed archive (place .used) measureKind (place .plant .number) k (place .measure)
+    plant-allowed : plantAllowed (place .plant .bytes) ≡ true
+    measure-allowed : measureAllowed (place .plant .bytes) (place .measure .bytes) ≡ true
+    count : place .links ≡ p + k
+
+  module _ (place : settle.Place) (e : placeOf archive p k ≡ given place) where
+    parts : Parts place
+    unfolding placeOf
+    parts =
+        let a = bind-both (usedOf archive) _ e in
+        let b = bind-both (plantAt archive (a .0) p) _ (a .2) in
+        let c = bind-both (measureAt archive (a .0) (b .0) k) _ (b .2) in
+        let d = required _ badPlant _ (c .2) in
+        let f = required _ badMeasure _ (d .1) in
+        subst Parts (same (f .1)) (record {
+          head = a .1;
+          plant-reached = walks.placed archive (a .0) plantKind noPlant p 0 _ (b .0) (b .1);
+          measure-reached = walks.placed archive (a .0) measureKind noMeasure k (b .0 .number) _ (c .0) (c .1);
+          plant-allowed = d .0;
+          measure-allowed = f .0;
+          count = refl;
+        })
+      where
+        same : {x y : settle.Place} → given x ≡ given y → x ≡ y
+        same q = cc
+
+    -- its records are the archive's own, and used ones
+    pub found : (place ≡ meant archive (numbersOf place)) × Lies archive (numbersOf place)
+    found =
+        let h = head-room archive (place .used) (used-head archive (place .used) (parts .head)) in
+        let plant = parts .plant-reached in
+        let measure = parts .measure-reached in (
+          whole (place .plant) (place .measure) (plant .is) (measure .is),
+          record { room = h .0; few = omega arith; plant-used = plant .below; measure-used = measure .below },
+        )
+      where
+        whole : (a b : Entry) → a ≡ entryAt archive (a .number) → b ≡ entryAt archive (b .number)
+            → _≡_ {A = settle.Place} (record { used = place .used; plant = a; measure = b; links = place .links })
+            (record { used = place .used; plant = entryAt archive (a .number); measure = entryAt archive (b .number); links = place .links })
+        whole a b f g = cc
+
+    pub found-plant : plantAllowed (place .plant .bytes) ≡ true
+    found-plant = parts .plant-allowed
+
+    pub found-measure : measureAllowed (place .plant .bytes) (place .measure .bytes) ≡ true
+    found-measure = parts .measure-allowed
+
+    -- links rise, so numbers are no smaller than the links followed to them
+    pub found-rises : place .plant .number < place .measure .number
+    found-rises = let m = parts .measure-reached in omega arith
+
+    pub found-links : place .links ≤ place .measure .number
+    found-links = let c = parts .count in let a = parts .plant-reached in let m = parts .measure-reached in omega arith
+
+-- the code's answer, taken apart
+module _ (o : Outcome settle.Place) (answer : Placed) (a : answer ≡ placedAnswer o) where
+  pub placed-at : (q : Place) → answer ≡ At q → (place : settle.Place) × (o ≡ given place) × (numbersOf place ≡ q)
+  placed-at q t = go o (sym t ∙ a)
+    where
+      go : (x : Outcome settle.Place) → At q ≡ placedAnswer x → (place : settle.Place) × (x ≡ given place) × (numbersOf place ≡ q)
+      go (refused n) b = let z : _≡_ {A = ℕ} 0 1 = cc in absurd (omega arith)
+      go (given place) b = (place, refl, cc)
+
+  pub placed-refused : (n : ℕ) → answer ≡ Refused n → o ≡ refused n
+  placed-refused n t = go o (sym t ∙ a)
+    where
+      go : (x : Outcome settle.Place) → Refused n ≡ placedAnswer x → x ≡ refused n
+      go (refused m) b = cc
+      go (given place) b = let z : _≡_ {A = ℕ} 0 1 = cc in absurd (omega arith)
+
+-- what an answer At q of `find` says
+module _ (archive : List ℕ) (p k : ℕ) where
+  pub record Located (q : Place) : Type 0 where
+    pub is : placeOf archive p k ≡ given (meant archive q)
+    pub lies : Lies archive q
+    pub plant-allowed : plantAllowed (recordAt archive (q .plant)) ≡ true
+    pub measure-allowed : measureAllowed (recordAt archive (q .plant)) (recordAt archive (q .measure)) ≡ true
+    pub rises : q .plant < q .measure
+    pub links-few : q .links ≤ q .measure
+
+  pub located : (answer : Placed) (q : Place) → answer ≡ placedAnswer (placeOf archive p k) → answer ≡ At q → Located q
+  located answer q a t =
+      let w = placed-at (placeOf archive p k) answer a q t in
+      subst Located (w .2) (from (w .0) (w .1))
+    where
+      from : (place : settle.Place) → placeOf archive p k ≡ given place → Located (numbersOf place)
+      from place e =
+          let f = found archive p k place e in
+          let d = parts archive p k place e in
+          record {
+            is = e ∙ ap given (f .0);
+            lies = f .1;
+            plant-allowed = ap (λ (x : Entry). plantAllowed (x .bytes)) (sym (d .plant-reached .is)) ∙ d .plant-allowed;
+            measure-allowed =
+                ap₂ (λ (x y : Entry). measureAllowed (x .bytes) (y .bytes)) (sym (d .plant-reached .is)) (sym (d .measure-reached .is)) ∙ d .measure-allowed;
+            rises = found-rises archive p k place e;
+            links-few = found-links archive p k place e;
+          }
