@@ -30,3 +30,7 @@ pub mod Figures
 pub mod RaisedExample
 pub mod Walks
 pub mod Folds
+pub mod Writes
+pub mod Owners
+pub mod AppendSteps
+pub mod AuditSteps

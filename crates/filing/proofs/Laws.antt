@@ -1,0 +1,100 @@
+-- What each answer of fresh and append is, over plain variables.
+use mathlib.Core.Path.{_≡_, refl, sym, _∙_, ap, subst}
+use mathlib.Core.Bool.{true, false}
+use mathlib.Core.List.{List}
+use Prim.Native.Nat.{ℕ, _+_, _*_, _/_, _≤_, _<_}
+use native.Mathlib.Omega.{arith}
+use lib.ListN.{length, replicate}
+use Rattle.rules.specs.Outcome.{Outcome, refused, given, _>>_, require}
+use Rattle.rules.specs.Refusals.{notArchive}
+use Rattle.rules.specs.Archive.{linkAt, kindOf, isWhole, usedOf, Entry, chain}
+use Rattle.rules.specs.Encoding.{put}
+use Rattle.rules.specs.Filing.{newAllowed, offsetFor, lastPlace, fresh, appendAfter}
+use Rattle.rules.specs.Promises.{Freshens, Appends}
+use Rattle.rules.proofs.Writes.{freshHead, fresh-written}
+use Rattle.rules.proofs.Sound.{used-head, whole-length}
+use Rattle.rules.proofs.Append.{allowed-new}
+use Rattle.rules.proofs.AppendSteps.{used-within, offset-within, append-files, last-fits}
+use Rattle.archive.specs.declared.Head.{Head}
+use Rattle.archive.specs.declared.Head.the-variants as head
+use Rattle.archive.specs.declared.ChainEnd.{ChainEnd}
+use Rattle.archive.specs.declared.ChainEnd.the-variants as chainEnd
+use Rattle.archive.specs.Answers.{headAnswer, endAnswer}
+use Rattle.filing.specs.declared.Place.{Place}
+use Rattle.filing.specs.declared.Place.the-variants as place
+use Rattle.filing.specs.Answers.{Places}
+
+-- ---- answers of the archive's readers taken apart
+
+abbrev pub headOutcome : Head → Outcome ℕ
+headOutcome (head.Used used) = given used
+headOutcome (head.Refused n) = refused n
+
+pub head-says : (x : Head) (o : Outcome ℕ) → x ≡ headAnswer o → o ≡ headOutcome x
+head-says x o e = go o ∙ ap headOutcome (sym e)
+  where
+    go : (o : Outcome ℕ) → o ≡ headOutcome (headAnswer o)
+    go (refused n) = refl
+    go (given used) = refl
+
+-- a chain refused, or its records, with the place of the last link
+abbrev pub Ended : ℕ → Outcome (List Entry) → ChainEnd → Type 0
+Ended first o (chainEnd.Refused n) = o ≡ refused n
+Ended first o (chainEnd.At last count) = (es : List Entry) × (o ≡ given es) × (last ≡ lastPlace first es)
+
+pub chain-says : (x : ChainEnd) (first : ℕ) (o : Outcome (List Entry)) → x ≡ endAnswer first o → Ended first o x
+chain-says x first o e = subst (Ended first o) (sym e) (go o)
+  where
+    go : (o : Outcome (List Entry)) → Ended first o (endAnswer first o)
+    go (refused n) = refl
+    go (given es) = (es, refl, refl)
+
+-- ---- fresh
+
+module _ (archive : List ℕ) where
+  pub fresh-refused : isWhole (length archive) ≡ false → Freshens archive archive notArchive
+  unfolding fresh _>>_ require
+  fresh-refused h = record { answers = rw h; leaves = rw h }
+
+  module _ (whole : isWhole (length archive) ≡ true) (zeros : List ℕ) where
+    pub fresh-fits : length zeros ≡ length archive → 0 + 8 ≤ length zeros
+    fresh-fits e = let w = whole-length (length archive) whole in omega arith
+
+    pub fresh-done : (later : List ℕ) → zeros ≡ replicate (length archive) 0 → later ≡ put zeros 0 freshHead → Freshens archive later 0
+    unfolding fresh _>>_ require
+    fresh-done later e f = record {
+      answers = rw whole;
+      leaves = f ∙ ap (λ (l : List ℕ). put l 0 freshHead) e ∙ fresh-written (length archive) ∙ sym (rw whole);
+    }
+
+-- ---- append
+
+module _ (archive : List ℕ) (owner used : ℕ) (u : usedOf archive ≡ given used) where
+  pub walk-needs : (kind offset : ℕ) → offsetFor archive used owner kind ≡ given offset → (32 * used ≤ length archive) × (used < 65536) × (owner < used) × (offset + 4 ≤ 32)
+  walk-needs kind offset o = let w = used-within archive used u in let x = offset-within archive used owner kind offset o in omega arith
+
+  pub placed : (new : List ℕ) → newAllowed new ≡ true → (kind : ℕ) → kind ≡ kindOf new → (offset : ℕ) → offsetFor archive used owner kind ≡ given offset
+      → (last count : ℕ) → Ended (32 * owner + offset) (chain archive used kind owner (linkAt archive (32 * owner + offset))) (chainEnd.At last count)
+      → used < length archive / 32 → Places archive owner new (place.At used last)
+  placed new a kind k offset o last count w h =
+      let l = whole-length (length archive) (used-head archive used u .whole) in
+      let f = last-fits archive owner new used u a kind k offset o (w .0) (w .1) in
+      let g = used-within archive used u in
+      let e = w .2 in (
+        append-files archive owner new used u a kind k offset o (w .0) (w .1) h
+            ∙ ap (λ (p : ℕ). given (appendAfter archive used p new)) (sym e),
+        allowed-new new a .size,
+        omega arith,
+        omega arith,
+        omega arith,
+      )
+
+module _ (archive : List ℕ) (owner : ℕ) (new : List ℕ) (x : Place) (p : Places archive owner new x) where
+  pub append-refused : (n : ℕ) → x ≡ place.Refused n → Appends archive owner new archive n
+  append-refused n e = let q = subst (Places archive owner new) e p in record { answers = rw q; leaves = rw q }
+
+  pub file-needs : (used last : ℕ) → x ≡ place.At used last → (length new ≡ 32) × (32 * used + 32 ≤ length archive) × (last + 4 ≤ length archive) × (used < 65535)
+  file-needs used last e = let q = subst (Places archive owner new) e p in (q .1, q .2, q .3, q .4)
+
+  pub append-done : (used last : ℕ) (later : List ℕ) → x ≡ place.At used last → later ≡ appendAfter archive used last new → Appends archive owner new later 0
+  append-done used last later e f = let q = subst (Places archive owner new) e p in record { answers = rw (q .0); leaves = f ∙ sym (rw (q .0)) }

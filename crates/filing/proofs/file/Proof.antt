@@ -1,0 +1,45 @@
+-- `filing::file` meets its contract.
+use mathlib.Core.List.{List}
+use mathlib.Core.Path.{_∙_, ap}
+use Prim.Native.Nat.{ℕ, _+_}
+use borrow.Author.Needs.{needs}
+use Rattle.rules.specs.Encoding.{word, put}
+use Rattle.rules.specs.Filing.{appendAfter}
+use Rattle.filing.proofs.file.Statement.{statement}
+use Rattle.filing.proofs.file.Tie as tie
+
+mul-put-bytes : tie.Need-mul-put-bytes
+mul-put-bytes c = search needs
+
+put-bytes-requires : tie.Need-put-bytes-requires
+put-bytes-requires c κs = search needs
+
+put-word-requires : tie.Need-put-word-requires
+put-word-requires c κs = search needs
+
+add-put-word : tie.Need-add-put-word
+add-put-word c = search needs
+
+put-word-requires-2 : tie.Need-put-word-requires-2
+put-word-requires-2 c κs = search needs
+
+same-length : tie.Need-same-length
+same-length c = search needs
+
+returns : tie.Need-returns
+unfolding appendAfter
+returns c = let a = c .before .before .before .before .before .before .before .before .before .before .before .before .before .before .args in
+    c .before .before .put-word2 .ensures
+    ∙ ap (λ (l : List ℕ). put l 4 (word (a .used + 1))) (c .before .before .before .before .before .before .put-word .ensures ∙ ap (λ (l : List ℕ). put l (a .last) (word (a .used))) (c .before .before .before .before .before .before .before .before .before .before .put-bytes .ensures))
+
+pub file-spec : {M : Type 1} → statement M
+file-spec =
+    tie.close
+    (tie.spec
+    mul-put-bytes
+    put-bytes-requires
+    put-word-requires
+    add-put-word
+    put-word-requires-2
+    same-length
+    returns)

@@ -1,0 +1,353 @@
+// Fresh, append and audit (document 01, 'Calls on the archive').
+ghost use mathlib.Core.Path.{_≡_};
+ghost use mathlib.Core.List.{map, _∷_, []};
+ghost use Prim.Native.Nat.{_+_, _*_, _≤_, _<_, _^_};
+ghost use lib.ListN.{length, replicate};
+ghost use Rattle.rules.specs.Archive.{isWhole};
+ghost use Rattle.rules.specs.Encoding.{word, put};
+ghost use Rattle.rules.specs.Links.{link, isKind, ownedBy, linksAt, standsAt, linkPlaces};
+ghost use Rattle.rules.specs.Filing.{newAllowed, offsetFor, appendAfter};
+ghost use Rattle.rules.specs.Audit.{linkChecked, recordChecked, recordsChecked};
+ghost use Rattle.rules.specs.Promises.{Freshens, Appends, Audits};
+ghost use Rattle.filing.specs.Answers.{ownedLinks, offsetOutcome, Places, linkNumber};
+ghost use Rattle.filing.specs.Marks.{marked, markedOnce, Checked};
+use archive::ChainEnd;
+use archive::Head;
+use archive::Link;
+use rules::refusal;
+
+// The kinds of records (document 01, 'The archive').
+const PLANT: u8 = 1;
+
+const POINT: u8 = 2;
+
+const MEASURE: u8 = 3;
+
+const BEFORE: u8 = 4;
+
+const QUARTER: u8 = 5;
+
+// ---- writes
+
+// These bytes from a place on.
+fn put_bytes(archive: &mut [u8], at: u64, bytes: &[u8])
+    requires { ⌜ at + length (now bytes) ≤ length (now archive) ⌝ }
+    ensures { λ _. ⌜ now (archive .exit) ≡ put (now (archive .entry)) at (now (bytes .entry)) ⌝ }
+{
+    let a = at as usize;
+    let mut i = 0;
+    while i < bytes.len() {
+        archive[a + i] = bytes[i];
+        i += 1;
+    }
+}
+
+// A number in four bytes.
+fn put_word(archive: &mut [u8], at: u64, n: u64)
+    requires { ⌜ (at + 4 ≤ length (now archive)) × (n < 2 ^ 32) ⌝ }
+    ensures { λ _. ⌜ now (archive .exit) ≡ put (now (archive .entry)) at (word n) ⌝ }
+{
+    let bytes = [
+        (n % 256) as u8,
+        (n / 256 % 256) as u8,
+        (n / 65536 % 256) as u8,
+        (n / 16777216 % 256) as u8,
+    ];
+    put_bytes(archive, at, &bytes);
+}
+
+// ---- fresh
+
+// 1 to 65,535 records of 32 bytes.
+fn is_whole(size: usize) -> bool
+    ensures { λ r. ⌜ r ≡ isWhole size ⌝ }
+{
+    if size % 32 != 0 {
+        return false;
+    }
+    if size / 32 < 1 {
+        return false;
+    }
+    size / 32 <= 65535
+}
+
+// Every byte zero.
+fn clear(archive: &mut [u8])
+    ensures { λ _. ⌜ now (archive .exit) ≡ replicate (length (now (archive .entry))) 0 ⌝ }
+{
+    let mut place = 0;
+    while place < archive.len() {
+        archive[place] = 0;
+        place += 1;
+    }
+}
+
+// AARB and U = 1, every other byte zero: 1 for the length.
+pub fn fresh(archive: &mut [u8]) -> u64
+    ensures { λ r. ⌜ Freshens (now (archive .entry)) (now (archive .exit)) r ⌝ }
+{
+    if !is_whole(archive.len()) {
+        return refusal::NOT_ARCHIVE;
+    }
+    clear(archive);
+    put_bytes(archive, 0, b"AARB\x01\x00\x00\x00");
+    0
+}
+
+// ---- the links of a record
+
+// The known kinds, 1-5.
+fn is_kind(kind: u8) -> bool
+    ensures { λ r. ⌜ r ≡ isKind kind ⌝ }
+{
+    PLANT <= kind && kind <= QUARTER
+}
+
+// The kinds that the links at bytes 8 and 12 of a record lead to, if it has them: a plant's points and measures, a measure's
+// before-quarters and quarters.
+enum Owned {
+    None,
+    Two(u8, u8),
+}
+
+fn owned_by(r: &[u8]) -> Owned
+    requires { ⌜ length (now r) ≡ 32 ⌝ }
+    ensures { λ o. ⌜ ownedLinks o ≡ ownedBy (now (r .entry)) ⌝ }
+{
+    let kind = archive::kind_of(r);
+    if kind == PLANT {
+        return Owned::Two(POINT, MEASURE);
+    }
+    if kind == MEASURE {
+        return Owned::Two(BEFORE, QUARTER);
+    }
+    Owned::None
+}
+
+// ---- append
+
+// 14: 32 bytes of a known kind with every link zero.
+fn new_allowed(new: &[u8]) -> bool
+    ensures { λ r. ⌜ r ≡ newAllowed (now (new .entry)) ⌝ }
+{
+    if new.len() != 32 {
+        return false;
+    }
+    if !is_kind(archive::kind_of(new)) {
+        return false;
+    }
+    if archive::link_at(new, 4) != 0 {
+        return false;
+    }
+    let Owned::Two(_, _) = owned_by(new) else {
+        return true;
+    };
+    if archive::link_at(new, 8) != 0 {
+        return false;
+    }
+    archive::link_at(new, 12) == 0
+}
+
+// The byte of an owner's link, or 15.
+enum Offset {
+    At(u64),
+    Refused(u64),
+}
+
+// The owner's link to its records of a kind; the head owns the plants.
+fn offset_for(archive: &[u8], used: u64, owner: u64, kind: u8) -> Offset
+    requires { ⌜ 32 * used ≤ length (now archive) ⌝ }
+    ensures { λ r. ⌜ offsetOutcome r ≡ offsetFor (now (archive .entry)) used owner kind ⌝ }
+{
+    if used <= owner {
+        return Offset::Refused(refusal::BAD_OWNER);
+    }
+    if owner == 0 {
+        if kind == PLANT {
+            return Offset::At(8);
+        }
+        return Offset::Refused(refusal::BAD_OWNER);
+    }
+    let i = owner as usize;
+    let Owned::Two(first, second) = owned_by(&archive[32 * i..32 * i + 32]) else {
+        return Offset::Refused(refusal::BAD_OWNER);
+    };
+    if kind == first {
+        return Offset::At(8);
+    }
+    if kind == second {
+        return Offset::At(12);
+    }
+    Offset::Refused(refusal::BAD_OWNER)
+}
+
+// The number of the new record and the place of the link to it, or a refusal.
+enum Place {
+    At(u64, u64),
+    Refused(u64),
+}
+
+// Every test of append: 1, 14, 15, 2, 3, 16.
+fn place_for(archive: &[u8], owner: u64, new: &[u8]) -> Place
+    ensures { λ r. ⌜ Places (now (archive .entry)) owner (now (new .entry)) r ⌝ }
+{
+    let used = match archive::read_head(archive) {
+        Head::Used(used) => used,
+        Head::Refused(number) => return Place::Refused(number),
+    };
+    if !new_allowed(new) {
+        return Place::Refused(refusal::BAD_RECORD);
+    }
+    let kind = archive::kind_of(new);
+    let offset = match offset_for(archive, used, owner, kind) {
+        Offset::At(at) => at,
+        Offset::Refused(number) => return Place::Refused(number),
+    };
+    let last = match archive::walk_all(archive, used, kind, owner, offset) {
+        ChainEnd::At(last, _) => last,
+        ChainEnd::Refused(number) => return Place::Refused(number),
+    };
+    if (archive.len() / 32) as u64 <= used {
+        return Place::Refused(refusal::ARCHIVE_FULL);
+    }
+    Place::At(used, last)
+}
+
+// The record goes to number U, the last link of its chain points to it, U grows by 1, no other byte changes.
+fn file(archive: &mut [u8], used: u64, last: u64, new: &[u8])
+    requires { ⌜ (length (now new) ≡ 32) × (32 * used + 32 ≤ length (now archive)) × (last + 4 ≤ length (now archive)) × (used < 65535) ⌝ }
+    ensures { λ _. ⌜ now (archive .exit) ≡ appendAfter (now (archive .entry)) used last (now (new .entry)) ⌝ }
+{
+    put_bytes(archive, 32 * used, new);
+    put_word(archive, last, used);
+    put_word(archive, 4, used + 1);
+}
+
+// A new record under its owner: 1, 14, 15, 2, 3, 16; nothing is written before every test has passed.
+pub fn append(archive: &mut [u8], owner: u64, new: &[u8]) -> u64
+    ensures { λ r. ⌜ Appends (now (archive .entry)) owner (now (new .entry)) (now (archive .exit)) r ⌝ }
+{
+    match place_for(archive, owner, new) {
+        Place::Refused(number) => number,
+        Place::At(used, last) => {
+            file(archive, used, last, new);
+            0
+        }
+    }
+}
+
+// ---- audit
+
+// Record n is named once more; a table of 65,536 marks has a place for every number.
+fn mark(marks: &mut [u8], n: u64)
+    requires { ⌜ n < length (now marks) ⌝ }
+    ensures { λ _. ⌜ now (marks .exit) ≡ marked (now (marks .entry)) n ⌝ }
+{
+    let i = n as usize;
+    let m = marks[i];
+    if m < 2 {
+        marks[i] = m + 1;
+    }
+}
+
+// The number of an answer to a link: 2 or 3, else 0.
+fn link_number(answer: Link) -> u64
+    ensures { λ r. ⌜ r ≡ linkNumber answer ⌝ }
+{
+    match answer {
+        Link::At(_) => 0,
+        Link::End => 0,
+        Link::Refused(number) => number,
+    }
+}
+
+// A link of record n, by its byte and the kind that it leads to: 2, 3. What it names is marked.
+fn check_link(archive: &[u8], used: u64, n: u64, at: usize, to: u8, marks: &mut [u8]) -> u64
+    requires { ⌜ (32 * used ≤ length (now archive)) × (n < used) × (at + 4 ≤ 32) × (used < 65536) × (length (now marks) ≡ 65536) ⌝ }
+    ensures { λ r. ⌜ Checked (now (archive .entry)) (linkChecked (now (archive .entry)) used n (link at to)) (standsAt n (link at to) ∷ []) (now (marks .entry)) (now (marks .exit)) r ⌝ }
+{
+    let answer = archive::follow(archive, used, to, n, archive::link_of(archive, n, at));
+    let Link::At(named) = answer else {
+        return link_number(answer);
+    };
+    mark(marks, named);
+    0
+}
+
+// The kind of record n, then its links in byte order; the head has one link and no kind.
+fn check_record(archive: &[u8], used: u64, n: u64, marks: &mut [u8]) -> u64
+    requires { ⌜ (32 * used ≤ length (now archive)) × (n < used) × (used < 65536) × (length (now marks) ≡ 65536) ⌝ }
+    ensures { λ r. ⌜ Checked (now (archive .entry)) (recordChecked (now (archive .entry)) used n) (map (standsAt n) (linksAt (now (archive .entry)) n)) (now (marks .entry)) (now (marks .exit)) r ⌝ }
+{
+    if n == 0 {
+        return check_link(archive, used, 0, 8, PLANT, marks);
+    }
+    let i = n as usize;
+    let r = &archive[32 * i..32 * i + 32];
+    let kind = archive::kind_of(r);
+    if !is_kind(kind) {
+        return refusal::WRONG_KIND;
+    }
+    let next = check_link(archive, used, n, 4, kind, marks);
+    if next != 0 {
+        return next;
+    }
+    let Owned::Two(first, second) = owned_by(r) else {
+        return 0;
+    };
+    let number = check_link(archive, used, n, 8, first, marks);
+    if number != 0 {
+        return number;
+    }
+    check_link(archive, used, n, 12, second, marks)
+}
+
+// All used records by number.
+fn check_records(archive: &[u8], used: u64, marks: &mut [u8]) -> u64
+    requires { ⌜ (32 * used ≤ length (now archive)) × (used < 65536) × (length (now marks) ≡ 65536) ⌝ }
+    ensures { λ r. ⌜ Checked (now (archive .entry)) (recordsChecked (now (archive .entry)) used used) (linkPlaces (now (archive .entry)) used) (now (marks .entry)) (now (marks .exit)) r ⌝ }
+{
+    let mut n: u64 = 0;
+    while n < used {
+        let number = check_record(archive, used, n, marks);
+        if number != 0 {
+            return number;
+        }
+        n += 1;
+    }
+    0
+}
+
+// Each used record but the head is named once.
+fn all_once(marks: &[u8], used: u64) -> bool
+    requires { ⌜ (1 ≤ used) × (used ≤ length (now marks)) ⌝ }
+    ensures { λ r. ⌜ r ≡ markedOnce (now (marks .entry)) used ⌝ }
+{
+    let mut i = 1;
+    while i < used {
+        if marks[i as usize] != 1 {
+            return false;
+        }
+        i += 1;
+    }
+    true
+}
+
+// 1; the head's link and each record by number; then 17.
+pub fn audit(archive: &[u8]) -> u64
+    ensures { λ r. ⌜ Audits (now (archive .entry)) r ⌝ }
+{
+    let used = match archive::read_head(archive) {
+        Head::Used(used) => used,
+        Head::Refused(number) => return number,
+    };
+    let mut marks = [0u8; 65536];
+    let number = check_records(archive, used, &mut marks);
+    if number != 0 {
+        return number;
+    }
+    if all_once(&marks, used) {
+        return 0;
+    }
+    refusal::NOT_NAMED_ONCE
+}
