@@ -48,7 +48,7 @@ pub fn link_of(archive: &[u8], n: u64, at: usize) -> u64
 // ---- the head
 
 // 1 to 65,535 records of 32 bytes.
-fn is_whole(size: usize) -> bool
+pub fn is_whole(size: usize) -> bool
     ensures { λ r. ⌜ r ≡ isWhole size ⌝ }
 {
     if size % 32 != 0 {

@@ -12,6 +12,7 @@ ghost use Rattle.curve.specs.Answers.{readingAnswer, CurveRead};
 ghost use Rattle.curve.specs.Steps.{InRange, point, filled, lastRead, walk, withPoint, withRecord, answerOf};
 use archive::Link;
 use place::Place;
+use rules::kind;
 use rules::refusal;
 use units::Speed;
 use units::Watt;
@@ -167,9 +168,6 @@ fn answer_of(read: PointsRead) -> CurveAnswer
     }
 }
 
-// The kind of a curve point.
-const POINT_KIND: u8 = 2;
-
 // The chain of points is walked whole (2, 3), then 9, 10. A table of zeros will do.
 pub fn read_points(archive: &[u8], place: Place, table: &mut [u64]) -> CurveAnswer
     requires { ⌜ Lies (now archive) place ⌝ }
@@ -188,7 +186,7 @@ pub fn read_points(archive: &[u8], place: Place, table: &mut [u64]) -> CurveAnsw
         power: 0,
     };
     while link != 0 {
-        let answer = archive::follow(archive, used, POINT_KIND, last, link);
+        let answer = archive::follow(archive, used, kind::POINT, last, link);
         let Link::At(n) = answer else {
             return CurveAnswer::Refused(archive::refusal_of(answer, 0));
         };

@@ -3,7 +3,6 @@ ghost use mathlib.Core.Path.{_≡_};
 ghost use mathlib.Core.List.{map, _∷_, []};
 ghost use Prim.Native.Nat.{_+_, _*_, _≤_, _<_, _^_};
 ghost use lib.ListN.{length, replicate};
-ghost use Rattle.rules.specs.Archive.{isWhole};
 ghost use Rattle.rules.specs.Encoding.{word, put};
 ghost use Rattle.rules.specs.Links.{link, isKind, ownedBy, linksAt, standsAt, linkPlaces};
 ghost use Rattle.rules.specs.Filing.{newAllowed, offsetFor, appendAfter};
@@ -14,18 +13,8 @@ ghost use Rattle.filing.specs.Marks.{marked, markedOnce, Checked};
 use archive::ChainEnd;
 use archive::Head;
 use archive::Link;
+use rules::kind;
 use rules::refusal;
-
-// The kinds of records (document 01, 'The archive').
-const PLANT: u8 = 1;
-
-const POINT: u8 = 2;
-
-const MEASURE: u8 = 3;
-
-const BEFORE: u8 = 4;
-
-const QUARTER: u8 = 5;
 
 // ---- writes
 
@@ -58,19 +47,6 @@ fn put_word(archive: &mut [u8], at: u64, n: u64)
 
 // ---- fresh
 
-// 1 to 65,535 records of 32 bytes.
-fn is_whole(size: usize) -> bool
-    ensures { λ r. ⌜ r ≡ isWhole size ⌝ }
-{
-    if size % 32 != 0 {
-        return false;
-    }
-    if size / 32 < 1 {
-        return false;
-    }
-    size / 32 <= 65535
-}
-
 // Every byte zero.
 fn clear(archive: &mut [u8])
     ensures { λ _. ⌜ now (archive .exit) ≡ replicate (length (now (archive .entry))) 0 ⌝ }
@@ -86,7 +62,7 @@ fn clear(archive: &mut [u8])
 pub fn fresh(archive: &mut [u8]) -> u64
     ensures { λ r. ⌜ Freshens (now (archive .entry)) (now (archive .exit)) r ⌝ }
 {
-    if !is_whole(archive.len()) {
+    if !archive::is_whole(archive.len()) {
         return refusal::NOT_ARCHIVE;
     }
     clear(archive);
@@ -100,7 +76,7 @@ pub fn fresh(archive: &mut [u8]) -> u64
 fn is_kind(kind: u8) -> bool
     ensures { λ r. ⌜ r ≡ isKind kind ⌝ }
 {
-    PLANT <= kind && kind <= QUARTER
+    kind::PLANT <= kind && kind <= kind::QUARTER
 }
 
 // The kinds that the links at bytes 8 and 12 of a record lead to, if it has them: a plant's points and measures, a measure's
@@ -115,11 +91,11 @@ fn owned_by(r: &[u8]) -> Owned
     ensures { λ o. ⌜ ownedLinks o ≡ ownedBy (now (r .entry)) ⌝ }
 {
     let kind = archive::kind_of(r);
-    if kind == PLANT {
-        return Owned::Two(POINT, MEASURE);
+    if kind == kind::PLANT {
+        return Owned::Two(kind::POINT, kind::MEASURE);
     }
-    if kind == MEASURE {
-        return Owned::Two(BEFORE, QUARTER);
+    if kind == kind::MEASURE {
+        return Owned::Two(kind::BEFORE, kind::QUARTER);
     }
     Owned::None
 }
@@ -163,7 +139,7 @@ fn offset_for(archive: &[u8], used: u64, owner: u64, kind: u8) -> Offset
         return Offset::Refused(refusal::BAD_OWNER);
     }
     if owner == 0 {
-        if kind == PLANT {
+        if kind == kind::PLANT {
             return Offset::At(8);
         }
         return Offset::Refused(refusal::BAD_OWNER);
@@ -280,7 +256,7 @@ fn check_record(archive: &[u8], used: u64, n: u64, marks: &mut [u8]) -> u64
     ensures { λ r. ⌜ Checked (now (archive .entry)) (recordChecked (now (archive .entry)) used n) (map (standsAt n) (linksAt (now (archive .entry)) n)) (now (marks .entry)) (now (marks .exit)) r ⌝ }
 {
     if n == 0 {
-        return check_link(archive, used, 0, 8, PLANT, marks);
+        return check_link(archive, used, 0, 8, kind::PLANT, marks);
     }
     let i = n as usize;
     let r = &archive[32 * i..32 * i + 32];

@@ -8,6 +8,7 @@ ghost use Rattle.archive.specs.Answers.{reachAnswer};
 ghost use Rattle.place.specs.Places.{meant, Lies, placedAnswer, reachRefusal, plantAt, measureAt, admitted, placeUnder};
 use archive::Head;
 use archive::Reach;
+use rules::kind;
 use rules::refusal;
 
 pub mod terms;
@@ -25,18 +26,13 @@ pub enum Placed {
     Refused(u64),
 }
 
-// The kinds of records that are looked for.
-const PLANT: u8 = 1;
-
-const MEASURE: u8 = 3;
-
 // Plants to p: 2, 3, 4.
 fn plant_at(archive: &[u8], used: u64, p: u64) -> Reach
     requires { ⌜ (1 ≤ used) × (32 * used ≤ length (now archive)) ⌝ }
     ensures { λ r. ⌜ r ≡ reachAnswer p (plantAt (now (archive .entry)) used p) ⌝ }
 {
     let first = archive::link_of(archive, 0, 8);
-    archive::walk_to(archive, used, PLANT, 0, first, p, refusal::NO_PLANT)
+    archive::walk_to(archive, used, kind::PLANT, 0, first, p, refusal::NO_PLANT)
 }
 
 // Measures to k, from their plant: 2, 3, 5.
@@ -45,7 +41,15 @@ fn measure_at(archive: &[u8], used: u64, plant: u64, k: u64) -> Reach
     ensures { λ r. ⌜ r ≡ reachAnswer k (measureAt (now (archive .entry)) used (entryAt (now (archive .entry)) plant) k) ⌝ }
 {
     let first = archive::link_of(archive, plant, 12);
-    archive::walk_to(archive, used, MEASURE, plant, first, k, refusal::NO_MEASURE)
+    archive::walk_to(
+        archive,
+        used,
+        kind::MEASURE,
+        plant,
+        first,
+        k,
+        refusal::NO_MEASURE,
+    )
 }
 
 // The number of a refused walk.

@@ -1,5 +1,6 @@
 // The types that the rule book (specs/) and the code of the other crates share. What they mean is said in specs/.
 
+pub mod kind;
 pub mod refusal;
 
 // Technology of a plant (byte 1).
