@@ -25,8 +25,7 @@ use denote.Enum.Declared.{tagOf, declared}
 use Rattle.archive.proofs.Link.{enum}
 use Rattle.archive.specs.declared.Link as answer
 use Rattle.archive.specs.declared.Link.the-variants as answers
-use Rattle.archive.specs.Answers.{linkAnswer}
-use Rattle.filing.specs.Answers.{linkNumber}
+use Rattle.archive.specs.Answers.{linkAnswer, refusalOf}
 use Rattle.filing.specs.Marks.{capped, marked, tally, noMarks, markedOnce, Checked}
 
 -- ---- answers to a link
@@ -132,12 +131,12 @@ module _ (archive : List ℕ) where
             number a r = cc
 
     -- zero, or refused
-    pub link-answered : (marks : List ℕ) (r : ℕ) → r ≡ linkNumber x → ((m : ℕ) → x ≡ answers.At m → ⊥) → LinkChecked used n at to marks marks r
+    pub link-answered : (marks : List ℕ) (r : ℕ) → r ≡ refusalOf x 0 → ((m : ℕ) → x ≡ answers.At m → ⊥) → LinkChecked used n at to marks marks r
     unfolding tally
     link-answered marks r number none =
-        subst (LinkChecked used n at to marks marks) (sym (number ∙ ap linkNumber says)) (go v (follow archive used to n v) refl refl says)
+        subst (LinkChecked used n at to marks marks) (sym (number ∙ ap (λ a. refusalOf a 0) says)) (go v (follow archive used to n v) refl refl says)
       where
-        go : (w : ℕ) (o : Outcome Entry) → v ≡ w → follow archive used to n v ≡ o → x ≡ linkAnswer w o → LinkChecked used n at to marks marks (linkNumber (linkAnswer w o))
+        go : (w : ℕ) (o : Outcome Entry) → v ≡ w → follow archive used to n v ≡ o → x ≡ linkAnswer w o → LinkChecked used n at to marks marks (refusalOf (linkAnswer w o) 0)
         go zero o i f q =
             let z : linkAt archive (32 * n + at) ≡ 0 = sym stands ∙ i in
             record {

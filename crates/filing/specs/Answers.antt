@@ -6,8 +6,6 @@ use lib.ListN.{length}
 use Rattle.rules.specs.Outcome.{Outcome, refused, given}
 use Rattle.rules.specs.Links.{Link, link}
 use Rattle.rules.specs.Filing.{appendAfter, append}
-use Rattle.archive.specs.declared.Link as answer
-use Rattle.archive.specs.declared.Link.the-variants as answers
 use Rattle.filing.specs.declared.Owned.{Owned}
 use Rattle.filing.specs.declared.Owned.the-variants.{None, Two}
 use Rattle.filing.specs.declared.Offset.{Offset}
@@ -31,9 +29,3 @@ Places archive owner new (place.Refused n) = append archive owner new ≡ refuse
 Places archive owner new (place.At used at) =
     (append archive owner new ≡ given (appendAfter archive used at new))
     × (length new ≡ 32) × (32 * used + 32 ≤ length archive) × (at + 4 ≤ length archive) × (used < 65535)
-
--- the number of an answer to a link: 2, 3, or 0 if the link is zero or leads to a record
-abbrev pub linkNumber : answer.Link → ℕ
-linkNumber (answers.At n) = 0
-linkNumber answers.End = 0
-linkNumber (answers.Refused n) = n

@@ -8,7 +8,7 @@ ghost use Rattle.rules.specs.Links.{link, isKind, ownedBy, linksAt, standsAt, l
 ghost use Rattle.rules.specs.Filing.{newAllowed, offsetFor, appendAfter};
 ghost use Rattle.rules.specs.Audit.{linkChecked, recordChecked, recordsChecked};
 ghost use Rattle.rules.specs.Promises.{Freshens, Appends, Audits};
-ghost use Rattle.filing.specs.Answers.{ownedLinks, offsetOutcome, Places, linkNumber};
+ghost use Rattle.filing.specs.Answers.{ownedLinks, offsetOutcome, Places};
 ghost use Rattle.filing.specs.Marks.{marked, markedOnce, Checked};
 use archive::ChainEnd;
 use archive::Head;
@@ -226,17 +226,6 @@ fn mark(marks: &mut [u8], n: u64)
     }
 }
 
-// The number of an answer to a link: 2 or 3, else 0.
-fn link_number(answer: Link) -> u64
-    ensures { λ r. ⌜ r ≡ linkNumber answer ⌝ }
-{
-    match answer {
-        Link::At(_) => 0,
-        Link::End => 0,
-        Link::Refused(number) => number,
-    }
-}
-
 // A link of record n, by its byte and the kind that it leads to: 2, 3. What it names is marked.
 fn check_link(archive: &[u8], used: u64, n: u64, at: usize, to: u8, marks: &mut [u8]) -> u64
     requires { ⌜ (32 * used ≤ length (now archive)) × (n < used) × (at + 4 ≤ 32) × (used < 65536) × (length (now marks) ≡ 65536) ⌝ }
@@ -244,7 +233,7 @@ fn check_link(archive: &[u8], used: u64, n: u64, at: usize, to: u8, marks: &mut 
 {
     let answer = archive::follow(archive, used, to, n, archive::link_of(archive, n, at));
     let Link::At(named) = answer else {
-        return link_number(answer);
+        return archive::refusal_of(answer, 0);
     };
     mark(marks, named);
     0

@@ -14,8 +14,8 @@ follow-requires c κs = search needs
 enum-known-answer : tie.Need-enum-known-answer
 enum-known-answer c = search needs
 
-link-number-requires : tie.Need-link-number-requires
-link-number-requires c κs = search needs
+refusal-of-requires : tie.Need-refusal-of-requires
+refusal-of-requires c κs = search needs
 
 returns : tie.Need-returns
 returns c =
@@ -23,7 +23,7 @@ returns c =
     let l = c .before .before .before .link-of in
     let f = c .before .before .follow in
     link-answered (a .archive .now) (a .used) (a .n) (a .at) (a .to) (omega arith) (l .result) (l .ensures .0) (f .result) (f .ensures) (a .marks .now) _
-    (c .link-number .ensures) (no-at (f .result) (c .before .match .keys2))
+    (c .refusal-of .ensures) (no-at (f .result) (c .before .match .keys2))
 
 mark-requires : tie.Need-mark-requires
 mark-requires c κs =
@@ -51,7 +51,7 @@ check-link-spec =
     link-of-requires
     follow-requires
     enum-known-answer
-    link-number-requires
+    refusal-of-requires
     returns
     mark-requires
     same-length
