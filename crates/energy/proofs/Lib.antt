@@ -4,3 +4,4 @@ pub mod Lies
 pub mod Steps
 pub mod Rows
 pub mod Laws
+pub mod References

@@ -3,3 +3,4 @@
 pub mod carry;
 pub mod factor;
 pub mod held;
+pub mod reference;

@@ -3,13 +3,14 @@ use mathlib.Core.Path.{_≡_, refl, sym, ap}
 use mathlib.Core.Bool.{Bool, true, false, cond, _&&_}
 use mathlib.Core.List.{List, [], _∷_}
 use Prim.Native.Nat.{ℕ, zero, suc, _+_, _-_, _*_, _≤_, _<_}
-use lib.ListN.{take, drop}
+use lib.ListN.{length, take, drop}
+use native.Mathlib.Nat.{le-refl, suc-le-suc-iff}
 use native.Mathlib.Omega.{arith}
 use lib.Dec.{T, eqb, ltb, ltb→lt}
-use Rattle.rules.specs.Outcome.{refused, given, _>>=_, _>>_, require}
+use Rattle.rules.specs.Outcome.{Outcome, refused, given, _>>=_, _>>_, require}
 use borrow.Author.Tests.{lt-ltb, le-ltb, eq-eqb, ne-eqb}
-use Rattle.rules.specs.Archive.{recordAt, kindOf, entryAt, follow, nextOf, chainFrom, chain}
-use Rattle.rules.proofs.Inversion.{Holds, holds-require, holds-given, both-left, both-right, bind-same}
+use Rattle.rules.specs.Archive.{recordAt, kindOf, Entry, entryAt, follow, nextOf, chainFrom, chain}
+use Rattle.rules.proofs.Inversion.{Holds, holds-cond, holds-refused, holds-bind, holds-require, holds-given, both-left, both-right, bind-same}
 
 module _ (archive : List ℕ) (used kind : ℕ) where
   pub follow-rises : (holder link : ℕ) → Holds (λ e. holder < e .number) (follow archive used kind holder link)
@@ -52,6 +53,20 @@ module _ (archive : List ℕ) (used kind : ℕ) where
   pub chain-goes : (holder link : ℕ) → (link ≡ 0 → ⊥) → chain archive used kind holder link
       ≡ (follow archive used kind holder link >>= λ e. chain archive used kind (e .number) (nextOf (e .bytes)) >>= λ es. given (e ∷ es))
   chain-goes holder link h = rw (chain-is holder link, ne-eqb link 0 h)
+
+  none-few : (n : ℕ) → 0 ≤ n
+  none-few n = omega arith
+
+  steps-few : (steps holder link : ℕ) → Holds (λ es. length es ≤ steps) (chainFrom archive used kind steps holder link)
+  steps-few zero holder link = holds-cond (eqb link 0) (holds-given _ (le-refl 0)) (holds-refused 2)
+  steps-few (suc steps) holder link =
+      holds-cond (eqb link 0) (holds-given _ (none-few (suc steps)))
+      (holds-bind _ _ (λ e h. holds-bind _ _ (λ es k. holds-given _ (suc-le-suc-iff .1 (steps-few steps (e .number) (nextOf (e .bytes)) .of es k)))))
+
+  -- a chain has at most U records
+  pub chain-few : (holder link : ℕ) → Holds (λ es. length es ≤ used) (chain archive used kind holder link)
+  unfolding chain
+  chain-few holder link = steps-few used holder link
 
   -- the four answers to a link
   pub follow-low : (holder link : ℕ) → link ≤ holder → follow archive used kind holder link ≡ refused 2

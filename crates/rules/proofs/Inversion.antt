@@ -1,6 +1,6 @@
 -- What holds of everything that an outcome can give, followed along its definition.
 use mathlib.Core.Path.{_≡_, refl, subst}
-use mathlib.Core.Bool.{Bool, true, false, _&&_}
+use mathlib.Core.Bool.{Bool, true, false, cond, _&&_}
 use mathlib.Core.List.{List, [], _∷_}
 use Prim.Native.Nat.{ℕ}
 use lib.Dec.{T}
@@ -35,6 +35,10 @@ holds-given {P} a p = record { of = λ b e. subst P (given-inj e) p }
   where
     given-inj : {b : _} → given a ≡ given b → a ≡ b
     given-inj e = cc
+
+pub holds-cond : {A : Type 0} {P : A → Type 0} (t : Bool) {x y : Outcome A} → Holds P x → Holds P y → Holds P (cond t x y)
+holds-cond true h k = h
+holds-cond false h k = k
 
 -- going on alike with what is given
 pub bind-same : {A B : Type 0} (m : Outcome A) (f g : A → Outcome B) → ((a : A) → m ≡ given a → f a ≡ g a) → (m >>= f) ≡ (m >>= g)

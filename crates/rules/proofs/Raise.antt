@@ -19,7 +19,7 @@ use Rattle.rules.specs.Settle.{Place, placeOf, Basis, quarterChain, quar
 use Rattle.rules.specs.Fractions.{quarterNumbers, Raised}
 use Rattle.rules.specs.Promises.{Settles}
 use Rattle.rules.specs.Demands.{RunningTotalsFall}
-use Rattle.rules.proofs.Inversion.{Holds, holds-bind, holds-refused, holds-require, holds-given, holds-anyway, same-given, All, none, more}
+use Rattle.rules.proofs.Inversion.{Holds, holds-cond, holds-bind, holds-refused, holds-require, holds-given, holds-anyway, same-given, All, none, more}
 use Rattle.rules.proofs.Positive.{basis-positive}
 use Rattle.rules.proofs.Refusals.{given-by-number, number-is, every-call-answers}
 use Rattle.rules.proofs.Settled.{MadeFrom, made-from, ReadFrom, read-from, count-is}
@@ -36,10 +36,6 @@ pub follow-entered : (a : List ℕ) (used kind holder link : ℕ) → Holds (Ent
 unfolding follow
 follow-entered a used kind holder link =
     holds-require _ 2 _ (λ t. holds-require _ 3 _ (λ t. holds-given _ (record { bytes-are = refl; kind-is = eqb→eq _ kind t })))
-
-holds-cond : {A : Type 0} {P : A → Type 0} (t : Bool) {x y : Outcome A} → Holds P x → Holds P y → Holds P (cond t x y)
-holds-cond true h k = h
-holds-cond false h k = k
 
 chain-from-entered : (a : List ℕ) (used kind steps holder link : ℕ) → Holds (All (Entered a kind)) (chainFrom a used kind steps holder link)
 chain-from-entered a used kind zero holder link = holds-cond (eqb link 0) (holds-given _ none) (holds-refused 2)

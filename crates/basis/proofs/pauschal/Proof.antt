@@ -1,0 +1,55 @@
+-- `basis::pauschal` meets its contract.
+use mathlib.Core.List.{[]}
+use native.Mathlib.Nat.{zero-add}
+use borrow.Author.Needs.{needs}
+use Rattle.place.specs.Places.{meant}
+use Rattle.basis.proofs.Answers.{pauschal-is, based-refused, based-of, first-few, first-on}
+use Rattle.basis.proofs.pauschal.Statement.{statement}
+use Rattle.basis.proofs.pauschal.Tie as tie
+
+slice-aggregate-gather : tie.Need-slice-aggregate-gather
+slice-aggregate-gather c = search needs
+
+gather-requires : tie.Need-gather-requires
+gather-requires c κs = search needs
+
+enum-known-first : tie.Need-enum-known-first
+enum-known-first c = search needs
+
+returns : tie.Need-returns
+returns c =
+    let a = c .before .before .before .before .before .before .before .before .args in
+    let g = c .before .before .before .before .before .gather in
+    let w = c .before .before .before .first .given in
+    based-of _ (g .result) (g .ensures .0 [] tt) _ _ (pauschal-is (a .archive .now) (meant (a .archive .now) (a .place))) (w .0 .0) (w .1) _
+    (first-few _ (w .0 .0 .sums) (c .if1 .taken))
+
+enum-known-n : tie.Need-enum-known-n
+enum-known-n c = search needs
+
+returns-2 : tie.Need-returns-2
+returns-2 c =
+    let a = c .before .before .before .before .before .before .before .before .args in
+    let g = c .before .before .before .before .before .gather in
+    let w = c .before .before .before .first .given in
+    based-of _ (g .result) (g .ensures .0 [] tt) _ _ (pauschal-is (a .archive .now) (meant (a .archive .now) (a .place))) (w .0 .0) (w .1) _
+    (rw (zero-add (w .0 .0 .count)) (first-on _ (w .0 .0 .sums) (c .if1 .left)))
+
+returns-3 : tie.Need-returns-3
+returns-3 c =
+    let a = c .before .before .before .before .before .before .args in
+    let g = c .before .before .before .gather in
+    let w = c .before .n .given in
+    based-refused _ (g .result) (g .ensures .0 [] tt) _ _ (pauschal-is (a .archive .now) (meant (a .archive .now) (a .place))) (w .0 .0) (w .1)
+
+pub pauschal-spec : {M : Type 1} → statement M
+pauschal-spec =
+    tie.close
+    (tie.spec
+    slice-aggregate-gather
+    gather-requires
+    enum-known-first
+    returns
+    enum-known-n
+    returns-2
+    returns-3)

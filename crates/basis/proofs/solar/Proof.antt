@@ -1,0 +1,86 @@
+-- `basis::solar` meets its contract.
+use mathlib.Core.List.{[]}
+use native.Mathlib.Nat.{zero-add}
+use native.Mathlib.Omega.{arith}
+use borrow.Author.Needs.{needs}
+use Rattle.place.specs.Places.{meant}
+use Rattle.basis.proofs.Answers.{solar-is, based-refused, based-of, room-of, all-few, all-zero, all-on}
+use Rattle.basis.proofs.solar.Statement.{statement}
+use Rattle.basis.proofs.solar.Tie as tie
+
+slice-aggregate-gather : tie.Need-slice-aggregate-gather
+slice-aggregate-gather c = search needs
+
+gather-requires : tie.Need-gather-requires
+gather-requires c κs = search needs
+
+enum-known-all : tie.Need-enum-known-all
+enum-known-all c = search needs
+
+returns : tie.Need-returns
+returns c =
+    let a = c .before .before .before .before .before .before .before .before .args in
+    let g = c .before .before .before .before .before .gather in
+    let w = c .before .before .before .all .given in
+    based-of _ (g .result) (g .ensures .0 [] tt) _ _ (solar-is (a .archive .now) (meant (a .archive .now) (a .place))) (w .0 .0) (w .1) _
+    (all-few _ (w .0 .0 .sums) (c .if1 .taken))
+
+returns-2 : tie.Need-returns-2
+returns-2 c =
+    let a = c .before .before .before .before .before .before .before .before .before .before .args in
+    let g = c .before .before .before .before .before .before .before .gather in
+    let w = c .before .before .before .before .before .all .given in
+    based-of _ (g .result) (g .ensures .0 [] tt) _ _ (solar-is (a .archive .now) (meant (a .archive .now) (a .place))) (w .0 .0) (w .1) _
+    (all-zero _ (w .0 .0 .sums) (c .before .before .if1 .left) (c .if2 .taken))
+
+sub-a : tie.Need-sub-a
+sub-a c =
+    let g = c .before .before .before .before .before .before .before .before .gather in
+    let w = c .before .before .before .before .before .before .all .given in
+    let room = room-of (g .result) (w .0 .0) (w .1) (g .ensures .1) in omega arith
+
+mul-a : tie.Need-mul-a
+mul-a c =
+    let g = c .before .before .before .before .before .before .before .before .gather in
+    let w = c .before .before .before .before .before .before .all .given in
+    let room = room-of (g .result) (w .0 .0) (w .1) (g .ensures .1) in omega arith
+
+add-a : tie.Need-add-a
+add-a c =
+    let g = c .before .before .before .before .before .before .before .before .before .gather in
+    let w = c .before .before .before .before .before .before .before .all .given in
+    let room = room-of (g .result) (w .0 .0) (w .1) (g .ensures .1) in omega arith
+
+enum-known-n : tie.Need-enum-known-n
+enum-known-n c = search needs
+
+returns-3 : tie.Need-returns-3
+returns-3 c =
+    let a = c .before .before .before .before .before .before .before .before .before .before .before .before .args in
+    let g = c .before .before .before .before .before .before .before .before .before .gather in
+    let w = c .before .before .before .before .before .before .before .all .given in
+    based-of _ (g .result) (g .ensures .0 [] tt) _ _ (solar-is (a .archive .now) (meant (a .archive .now) (a .place))) (w .0 .0) (w .1) _
+    (rw (zero-add (w .0 .0 .count)) (all-on _ (w .0 .0 .sums) (c .before .before .before .before .if1 .left) (c .before .before .if2 .left) (room-of (g .result) (w .0 .0) (w .1) (g .ensures .1) .0 .room .few)))
+
+returns-4 : tie.Need-returns-4
+returns-4 c =
+    let a = c .before .before .before .before .before .before .args in
+    let g = c .before .before .before .gather in
+    let w = c .before .n .given in
+    based-refused _ (g .result) (g .ensures .0 [] tt) _ _ (solar-is (a .archive .now) (meant (a .archive .now) (a .place))) (w .0 .0) (w .1)
+
+pub solar-spec : {M : Type 1} → statement M
+solar-spec =
+    tie.close
+    (tie.spec
+    slice-aggregate-gather
+    gather-requires
+    enum-known-all
+    returns
+    returns-2
+    sub-a
+    mul-a
+    add-a
+    enum-known-n
+    returns-3
+    returns-4)

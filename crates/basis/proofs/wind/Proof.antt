@@ -1,0 +1,109 @@
+-- `basis::wind` meets its contract.
+use mathlib.Core.Path.{_∙_, ap}
+use native.Mathlib.Omega.{arith}
+use borrow.Author.Needs.{needs}
+use Rattle.rules.specs.Terms.{nominalPower, plantAllowed}
+use Rattle.rules.proofs.Chains.{record-part}
+use Rattle.place.specs.Places.{meant}
+use Rattle.basis.proofs.Answers.{wind-is, based-refused, based-of, room-of, four-few, four-zero, four-on}
+use Rattle.basis.proofs.wind.Statement.{statement}
+use Rattle.basis.proofs.wind.Tie as tie
+
+mul-nominal-power : tie.Need-mul-nominal-power
+mul-nominal-power c = search needs
+
+mul-nominal-power-2 : tie.Need-mul-nominal-power-2
+mul-nominal-power-2 c = search needs
+
+add-nominal-power : tie.Need-add-nominal-power
+add-nominal-power c = search needs
+
+sub-nominal-power : tie.Need-sub-nominal-power
+sub-nominal-power c = search needs
+
+part-nominal-power-start : tie.Need-part-nominal-power-start
+part-nominal-power-start c = search needs
+
+part-nominal-power-end : tie.Need-part-nominal-power-end
+part-nominal-power-end c = search needs
+
+nominal-power-requires : tie.Need-nominal-power-requires
+nominal-power-requires c κs =
+    let p = c .before .before .before in
+    (search needs, ap plantAllowed (record-part (p .args .archive .now) (p .args .place .plant)) ∙ p .pre .1 .0)
+
+gather-requires : tie.Need-gather-requires
+gather-requires c κs = search needs
+
+enum-known-four : tie.Need-enum-known-four
+enum-known-four c = search needs
+
+returns : tie.Need-returns
+returns c =
+    let a = c .before .before .before .before .before .before .before .before .before .before .args in
+    let g = c .before .before .before .before .before .gather in
+    let q = c .before .before .before .before .before .before .nominal-power in
+    let e = q .ensures .0 ∙ ap nominalPower (record-part (a .archive .now) (a .place .plant)) in
+    let w = c .before .before .before .four .given in
+    λ points t h. based-of _ (g .result) (g .ensures .0 points t) _ _ (wind-is (q .result) points (a .archive .now) (meant (a .archive .now) (a .place)) e) (w .0 .0) (w .1) _
+    (four-few _ (w .0 .0 .sums) (q .result) points (c .if1 .taken))
+
+returns-2 : tie.Need-returns-2
+returns-2 c =
+    let a = c .before .before .before .before .before .before .before .before .before .before .before .before .args in
+    let g = c .before .before .before .before .before .before .before .gather in
+    let q = c .before .before .before .before .before .before .before .before .nominal-power in
+    let e = q .ensures .0 ∙ ap nominalPower (record-part (a .archive .now) (a .place .plant)) in
+    let w = c .before .before .before .before .before .four .given in
+    λ points t h. based-of _ (g .result) (g .ensures .0 points t) _ _ (wind-is (q .result) points (a .archive .now) (meant (a .archive .now) (a .place)) e) (w .0 .0) (w .1) _
+    (four-zero _ (w .0 .0 .sums) (q .result) points (c .before .before .if1 .left) (c .if2 .taken))
+
+add-t22 : tie.Need-add-t22
+add-t22 c =
+    let p = c .before .before .before .before .before .before .before .before .before .before .before .before .before in
+    let g = c .before .before .before .before .before .before .before .before .gather in
+    let w = c .before .before .before .before .before .before .four .given in
+    let room = room-of (g .result) (w .0 .0) (w .1) (g .ensures .1) in
+    omega (arith, p .pre .1 .1 .2, room .1)
+
+enum-known-n : tie.Need-enum-known-n
+enum-known-n c = search needs
+
+returns-3 : tie.Need-returns-3
+returns-3 c =
+    let a = c .before .before .before .before .before .before .before .before .before .before .before .before .before .args in
+    let g = c .before .before .before .before .before .before .before .before .gather in
+    let q = c .before .before .before .before .before .before .before .before .before .nominal-power in
+    let e = q .ensures .0 ∙ ap nominalPower (record-part (a .archive .now) (a .place .plant)) in
+    let w = c .before .before .before .before .before .before .four .given in
+    λ points t h. based-of _ (g .result) (g .ensures .0 points t) _ _ (wind-is (q .result) points (a .archive .now) (meant (a .archive .now) (a .place)) e) (w .0 .0) (w .1) _
+    (rw h (four-on _ (w .0 .0 .sums) (q .result) points (c .before .before .before .if1 .left) (c .before .if2 .left)))
+
+returns-4 : tie.Need-returns-4
+returns-4 c =
+    let a = c .before .before .before .before .before .before .before .before .args in
+    let g = c .before .before .before .gather in
+    let q = c .before .before .before .before .nominal-power in
+    let e = q .ensures .0 ∙ ap nominalPower (record-part (a .archive .now) (a .place .plant)) in
+    let w = c .before .n .given in
+    λ points t h. based-refused _ (g .result) (g .ensures .0 points t) _ _ (wind-is (q .result) points (a .archive .now) (meant (a .archive .now) (a .place)) e) (w .0 .0) (w .1)
+
+pub wind-spec : {M : Type 1} → statement M
+wind-spec =
+    tie.close
+    (tie.spec
+    mul-nominal-power
+    mul-nominal-power-2
+    add-nominal-power
+    sub-nominal-power
+    part-nominal-power-start
+    part-nominal-power-end
+    nominal-power-requires
+    gather-requires
+    enum-known-four
+    returns
+    returns-2
+    add-t22
+    enum-known-n
+    returns-3
+    returns-4)

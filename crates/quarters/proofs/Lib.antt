@@ -1,0 +1,2 @@
+pub mod Exacts
+pub mod Walks

@@ -1,0 +1,299 @@
+-- A walk over a measure's quarters, step by step, and what it has gathered at the chain's end.
+use mathlib.Core.Path.{_≡_, refl, sym, _∙_, ap}
+use mathlib.Core.Bool.{Bool, true, false, _&&_}
+use mathlib.Core.List.{List, [], _∷_, _++_, map, append-nil}
+use Prim.Native.Nat.{ℕ, suc, _+_, _*_, _-_, _/_, _^_, _≤_, _<_}
+use native.Mathlib.Numerals.{add-one}
+use native.Mathlib.Nat.{suc-mul, mul-le-mul-right, div-le-of-le-mul}
+use native.Mathlib.Omega.{arith}
+use borrow.Author.Tests.{leb-true}
+use lib.Dec.{leb}
+use lib.ListN.{length, take, drop, set, length-set}
+use lib.Seq.{take-suc-set, append-snoc, set-out}
+use Rattle.rules.specs.declared.Direction.{Direction}
+use Rattle.rules.specs.declared.Execution.{Execution}
+use Rattle.rules.specs.Outcome.{Outcome, refused, given, _>>=_, _>>_, require}
+use Rattle.rules.specs.Refusals.{badCount, outOfRange}
+use Rattle.rules.specs.Numbers.{all, sum, mapFrom}
+use Rattle.rules.specs.Archive.{recordAt, nextOf, Entry, chain, quarterKind, firstQuarter, entryAt}
+use Rattle.rules.specs.Terms.{Point, Quarter, quarterOf, directionOf, executionOf}
+use Rattle.rules.specs.Reference as book
+use Rattle.rules.specs.Reference.{denominator, exactOf}
+use Rattle.rules.specs.Settle as settle
+use Rattle.rules.specs.Settle.{Basis, quarterChain, quartersRead, limitReadable, referenceReadable, readable, quartersOf}
+use Rattle.rules.proofs.Chains.{chain-ends, record-part}
+use Rattle.rules.proofs.Inversion.{same-given}
+use Rattle.rules.proofs.Sound.{both}
+use Rattle.rules.proofs.Folds.{gathered, gatheredFrom, gather-turn, gather-refused, gather-done}
+use Rattle.archive.proofs.Laws.{Met, chain-met}
+use Rattle.place.specs.declared.Place.{Place}
+use Rattle.place.specs.Places.{meant}
+use Rattle.curve.specs.declared.Curve.{Curve}
+use Rattle.energy.specs.declared.reference.Reference.{Reference}
+use Rattle.energy.specs.References.{meaning, Bounded}
+use Rattle.quarters.specs.declared.exact.Exact.{Exact}
+use Rattle.quarters.specs.declared.exact.Exact.the-variants as exact
+use Rattle.quarters.specs.declared.Walked.the-variants as walked
+use Rattle.quarters.specs.Exacts.{Curved, exactAnswer, quarterAnswer}
+use Rattle.quarters.specs.Walks.{isInRange, entered, WalkedBy, Walks}
+use Rattle.quarters.proofs.Exacts.{exact-small}
+
+-- the quarters met so far, whether every needed field of them is in range, and the sheet
+pub record Gathered : Type 0 where
+  pub count : ℕ
+  pub fine : Bool
+  pub sheet : List ℕ
+
+abbrev pub state : ℕ → Bool → List ℕ → Gathered
+state count fine sheet = record { count = count; fine = fine; sheet = sheet }
+
+module _ (s : Direction) (x : Execution) (reference : book.Reference) (measure : List ℕ) where
+  abbrev isReadable : Quarter → Bool
+  isReadable q = limitReadable x q && referenceReadable reference q
+
+  abbrev pub exactAt : ℕ → List ℕ → Exact
+  exactAt index r = quarterAnswer s x reference (quarterOf measure index r)
+
+  abbrev pub stepped : Gathered → Entry → Gathered
+  stepped g e =
+      state (g .count + 1) (isInRange (exactAt (g .count) (e .bytes)) && g .fine) (entered (g .sheet) (g .count) (exactAt (g .count) (e .bytes)))
+
+  abbrev readFrom : ℕ → List Entry → List Quarter
+  readFrom count es = mapFrom (λ index e. quarterOf measure index (e .bytes)) count es
+
+  -- ---- a turn of the loop
+
+  turned : (archive : List ℕ) (used holder l n next count : ℕ) (fine fine′ : Bool) (sheet sheet′ : List ℕ) (magnitude : Exact)
+      → Met archive used quarterKind holder l n → next ≡ nextOf (recordAt archive n) → magnitude ≡ exactAt count (recordAt archive n)
+      → fine′ ≡ (isInRange magnitude && fine) → sheet′ ≡ entered sheet count magnitude
+      → gatheredFrom stepped (state count fine sheet) (chain archive used quarterKind holder l)
+      ≡ gatheredFrom stepped (state (count + 1) fine′ sheet′) (chain archive used quarterKind n next)
+  turned archive used holder l n next count fine fine′ sheet sheet′ magnitude m e i f w =
+      gather-turn stepped (state count fine sheet) _ _ (entryAt archive n) (chain-met archive used quarterKind holder l n next m e)
+      ∙ rw (f, w, i)
+
+  -- ---- what is gathered from a whole chain
+
+  count-is : (es : List Entry) (g : Gathered) → gathered stepped g es .count ≡ g .count + length es
+  count-is [] g = omega arith
+  count-is (e ∷ es) g = omega (arith, count-is es (stepped g e))
+
+  fine-is : (es : List Entry) (g : Gathered) → gathered stepped g es .fine ≡ (all isReadable (readFrom (g .count) es) && g .fine)
+  fine-is [] g = refl
+  fine-is (e ∷ es) g =
+      fine-is es (stepped g e)
+      ∙ go (isReadable (quarterOf measure (g .count) (e .bytes))) (all isReadable (readFrom (g .count + 1) es)) (g .fine) (exactOf s x reference (quarterOf measure (g .count) (e .bytes)))
+    where
+      go : (t u v : Bool) (m : ℕ) → (u && (isInRange (exactAnswer t m) && v)) ≡ ((t && u) && v)
+      go true u v m = refl
+      go false true v m = refl
+      go false false v m = refl
+
+  readable-step : (g : Gathered) (e : Entry) → isReadable (quarterOf measure (g .count) (e .bytes)) ≡ true
+      → stepped g e ≡ state (g .count + 1) (g .fine) (set (g .sheet) (g .count) (exactOf s x reference (quarterOf measure (g .count) (e .bytes))))
+  readable-step g e r =
+      ap (λ (t : Bool). let m = exactAnswer t (exactOf s x reference (quarterOf measure (g .count) (e .bytes))) in
+      state (g .count + 1) (isInRange m && g .fine) (entered (g .sheet) (g .count) m)) r
+
+  -- the sheet has a place for each
+  sheet-is : (es : List Entry) (g : Gathered) → all isReadable (readFrom (g .count) es) ≡ true → g .count + length es ≤ length (g .sheet)
+      → take (g .count + length es) (gathered stepped g es .sheet) ≡ take (g .count) (g .sheet) ++ map (exactOf s x reference) (readFrom (g .count) es)
+  sheet-is [] g r h = let z : g .count + 0 ≡ g .count = omega arith in rw (z, append-nil)
+  sheet-is (e ∷ es) g r h =
+      let b = both (isReadable (quarterOf measure (g .count) (e .bytes))) _ r in
+      let m : ℕ = exactOf s x reference (quarterOf measure (g .count) (e .bytes)) in
+      let k : g .count + suc (length es) ≡ g .count + 1 + length es = omega arith in
+      rw k
+      (ap (λ (n : Gathered). take (g .count + 1 + length es) (gathered stepped n es .sheet)) (readable-step g e (b .0))
+      ∙ sheet-is es (state (g .count + 1) (g .fine) (set (g .sheet) (g .count) m)) (b .1) (simp length-set (omega arith))
+      ∙ rw (add-one (g .count), take-suc-set (g .sheet) (g .count) m (omega arith), append-snoc))
+
+  -- ---- at the chain's end
+
+  -- a walk that started before its first quarter has met all of them
+  record Ended (o : Outcome (List Entry)) (g : Gathered) : Type 0 where
+    entries : List Entry
+    are : o ≡ given entries
+    count : g .count ≡ length entries
+    fine : g .fine ≡ all isReadable (readFrom 0 entries)
+    sheet : g .fine ≡ true → length entries ≤ 2976 → take (length entries) (g .sheet) ≡ map (exactOf s x reference) (readFrom 0 entries)
+
+  ended : (o : Outcome (List Entry)) (sheet : List ℕ) (g : Gathered) → length sheet ≡ 2976 → gatheredFrom stepped (state 0 true sheet) o ≡ given g → Ended o g
+  ended (refused n) sheet g h e = let z : _≡_ {A = ℕ} 0 1 = cc in absurd (omega arith)
+  ended (given es) sheet g h e =
+      let i : gathered stepped (state 0 true sheet) es ≡ g = cc in
+      let c : g .count ≡ length es = ap (λ (n : Gathered). n .count) (sym i) ∙ count-is es (state 0 true sheet) ∙ omega arith in
+      let f : g .fine ≡ all isReadable (readFrom 0 es) = ap (λ (n : Gathered). n .fine) (sym i) ∙ fine-is es (state 0 true sheet) ∙ and-true (all isReadable (readFrom 0 es)) in
+      record {
+        entries = es;
+        are = refl;
+        count = c;
+        fine = f;
+        sheet = λ r k. ap (λ (n : Gathered). take (length es) (n .sheet)) (sym i) ∙ sheets es sheet (sym f ∙ r) (omega arith);
+      }
+    where
+      and-true : (t : Bool) → (t && true) ≡ t
+      and-true true = refl
+      and-true false = refl
+
+      sheets : (es : List Entry) (sheet : List ℕ) → all isReadable (readFrom 0 es) ≡ true → length es ≤ length sheet
+          → take (length es) (gathered stepped (state 0 true sheet) es .sheet) ≡ map (exactOf s x reference) (readFrom 0 es)
+      sheets es sheet r k = let z : 0 + length es ≡ length es = omega arith in rw z at (sheet-is es (state 0 true sheet) r (omega arith))
+
+-- a refusal on the way is the chain's
+gathered-refused : {S : Type 0} (step : S → Entry → S) (g : S) (o : Outcome (List Entry)) (n : ℕ) → gatheredFrom step g o ≡ refused n → o ≡ refused n
+gathered-refused step g (refused k) n e = cc
+gathered-refused step g (given es) n e = let z : _≡_ {A = ℕ} 0 1 = cc in absurd (omega arith)
+
+-- ---- the sum of all magnitudes, in whole Wh
+
+total-bound : (f : Quarter → ℕ) (test : Quarter → Bool) (b : ℕ) → ((q : Quarter) → test q ≡ true → f q ≤ b) → (qs : List Quarter) → all test qs ≡ true
+    → sum (map f qs) ≤ length qs * b
+total-bound f test b h [] e = omega arith
+total-bound f test b h (q ∷ qs) e =
+    let t = both (test q) (all test qs) e in
+    omega (arith, h q (t .0), total-bound f test b h qs (t .1), suc-mul (length qs) b)
+
+total-fits : (total count d : ℕ) → count ≤ 2976 → total ≤ count * (200000000000000 * d) → total / (4 * d) < 2 ^ 63
+total-fits total count d c h =
+    let m : count * (200000000000000 * d) ≤ 2976 * (200000000000000 * d) = mul-le-mul-right (200000000000000 * d) c in
+    let q : total / (4 * d) ≤ 148800000000000000 = div-le-of-le-mul (4 * d) (omega arith) in
+    omega arith
+
+-- ---- what settle's rule says of the quarters
+
+read-length : (f : ℕ → Entry → Quarter) (i : ℕ) (es : List Entry) → length (mapFrom f i es) ≡ length es
+read-length f i [] = refl
+read-length f i (e ∷ es) = ap suc (read-length f (i + 1) es)
+
+module _ (archive : List ℕ) (place : settle.Place) (basis : Basis) where
+  walked-refused : (sheet : List ℕ) (n : ℕ) → quartersOf archive place basis ≡ refused n → WalkedBy archive place basis sheet (walked.Refused n)
+  walked-refused sheet n e = record {
+    answers = rw e;
+    writes = λ quarters i. let z : _≡_ {A = ℕ} 0 1 = cc in absurd (omega arith);
+    fits = λ quarters i. let z : _≡_ {A = ℕ} 0 1 = cc in absurd (omega arith);
+  }
+
+  walked-chain : (sheet : List ℕ) (n : ℕ) → quarterChain archive place ≡ refused n → WalkedBy archive place basis sheet (walked.Refused n)
+  unfolding quartersOf _>>=_
+  walked-chain sheet n e = walked-refused sheet n (rw e)
+
+  module _ (g : Gathered) (h : Ended (directionOf (place .measure .bytes)) (executionOf (place .measure .bytes)) (basis .reference) (place .measure .bytes) (quarterChain archive place) g) where
+    walked-uncounted : (leb 1 (g .count) && leb (g .count) 2976) ≡ false → WalkedBy archive place basis (g .sheet) (walked.Refused badCount)
+    unfolding quartersOf _>>=_ _>>_ require
+    walked-uncounted k = walked-refused (g .sheet) badCount (rw (h .are, ← h .count, k))
+
+    module _ (counted : (leb 1 (g .count) && leb (g .count) 2976) ≡ true) where
+      walked-unreadable : g .fine ≡ false → WalkedBy archive place basis (g .sheet) (walked.Refused outOfRange)
+      unfolding quartersOf _>>=_ _>>_ require
+      walked-unreadable f = walked-refused (g .sheet) outOfRange (rw (h .are, ← h .count, counted, ← h .fine, f))
+
+      quarters-read : g .fine ≡ true → quartersOf archive place basis ≡ given (quartersRead place (h .entries))
+      unfolding quartersOf _>>=_ _>>_ require
+      quarters-read f = rw (h .are, ← h .count, counted, ← h .fine, f)
+
+      few : length (h .entries) ≤ 2976
+      few = omega (arith, leb-true (g .count) 2976 (both (leb 1 (g .count)) _ counted .1), h .count)
+
+      walked-given : g .fine ≡ true
+          → ((q : Quarter) → readable place basis q ≡ true
+          → exactOf (directionOf (place .measure .bytes)) (executionOf (place .measure .bytes)) (basis .reference) q ≤ 200000000000000 * denominator (basis .reference))
+          → WalkedBy archive place basis (g .sheet) (walked.Count (g .count))
+      walked-given f small =
+          let size : length (quartersRead place (h .entries)) ≡ length (h .entries) = read-length _ 0 (h .entries) in
+          let is = quarters-read f in
+          record {
+            answers = rw (is, size) (ap walked.Count (h .count));
+            writes = λ quarters i. rw (same-given i is, size) (h .sheet f few);
+            fits = λ quarters i. rw (same-given i is)
+                (total-fits _ (length (h .entries)) (denominator (basis .reference)) few
+                (rw (← size) (total-bound _ (readable place basis) _ small (quartersRead place (h .entries)) (sym (h .fine) ∙ f))));
+          }
+
+-- ---- the walk of the code
+
+-- it stands before a link: what is gathered from the whole chain is what is gathered from here on
+pub record Going (archive : List ℕ) (used measure : ℕ) (s : Direction) (x : Execution) (reference : Reference) (curve : Curve) (table start : List ℕ)
+    (last link : ℕ) (g : Gathered) : Type 0 where
+  pub gathers : (points : List Point) → Curved reference curve table points
+      → gatheredFrom (stepped s x (meaning reference points) (recordAt archive measure)) (state 0 true start)
+      (chain archive used quarterKind measure (firstQuarter (recordAt archive measure)))
+      ≡ gatheredFrom (stepped s x (meaning reference points) (recordAt archive measure)) g (chain archive used quarterKind last link)
+  pub below : last < used
+  pub counted : g .count ≤ last
+  pub size : length (g .sheet) ≡ 2976
+
+module _ {archive : List ℕ} {used measure : ℕ} {s : Direction} {x : Execution} {reference : Reference} {curve : Curve} {table start : List ℕ} where
+  pub going-starts : {link : ℕ} → measure < used → length start ≡ 2976 → link ≡ firstQuarter (recordAt archive measure)
+      → Going archive used measure s x reference curve table start measure link (state 0 true start)
+  going-starts below size e = record { gathers = λ points c. rw e; below = below; counted = omega arith; size = size }
+
+  pub going-on : {last link n next count : ℕ} {fine fine′ : Bool} {sheet sheet′ : List ℕ} (magnitude : Exact)
+      → Going archive used measure s x reference curve table start last link (state count fine sheet)
+      → Met archive used quarterKind last link n → next ≡ nextOf (recordAt archive n)
+      → ((points : List Point) → Curved reference curve table points
+      → magnitude ≡ exactAt s x (meaning reference points) (recordAt archive measure) count (recordAt archive n))
+      → fine′ ≡ (isInRange magnitude && fine) → sheet′ ≡ entered sheet count magnitude → length sheet′ ≡ length sheet
+      → Going archive used measure s x reference curve table start n next (state (count + 1) fine′ sheet′)
+  going-on {last} {link} {n} {next} {count} {fine} {fine′} {sheet} {sheet′} magnitude g m e i f w k = record {
+    gathers = λ points c.
+        g .gathers points c
+        ∙ turned s x (meaning reference points) (recordAt archive measure) archive used last link n next count fine fine′ sheet sheet′ magnitude m e (i points c) f w;
+    below = m .below;
+    counted = omega (arith, g .counted, m .rises);
+    size = k ∙ g .size;
+  }
+
+module _ {archive : List ℕ} {s : Direction} {x : Execution} {reference : Reference} {curve : Curve} {table start : List ℕ} {last link : ℕ} {g : Gathered} (place : Place)
+    (h : Going archive (place .used) (place .measure) s x reference curve table start last link g) where
+  pub walks-refused : {n r : ℕ} → chain archive (place .used) quarterKind last link ≡ refused n → r ≡ n
+      → Walks archive place reference curve table (g .sheet) (walked.Refused r)
+  walks-refused {n} e i = record {
+    by = λ points links c.
+        let f = gathered-refused _ _ _ n (h .gathers points c ∙ gather-refused (stepped s x (meaning reference points) (recordAt archive (place .measure))) g _ n e) in
+        rw i (walked-chain archive (meant archive place) _ (g .sheet) n f);
+    size = h .size;
+  }
+
+  -- direction and execution are read from the part `&archive[32 * m..32 * m + 32]` of the measure
+  module _ (end : link ≡ 0) (size : length start ≡ 2976) (b : Bounded reference)
+      (es : s ≡ directionOf (take (32 * place .measure + 32 - 32 * place .measure) (drop (32 * place .measure) archive)))
+      (ex : x ≡ executionOf (take (32 * place .measure + 32 - 32 * place .measure) (drop (32 * place .measure) archive))) where
+    abbrev basisWith : List Point → ℕ → Basis
+    basisWith points links = record { reference = meaning reference points; links = links }
+
+    ends : (points : List Point) → Curved reference curve table points
+        → Ended (directionOf (recordAt archive (place .measure))) (executionOf (recordAt archive (place .measure))) (meaning reference points) (recordAt archive (place .measure))
+        (quarterChain archive (meant archive place)) g
+    ends points c =
+        let p = record-part archive (place .measure) in
+        rw (← es ∙ ap directionOf p, ← ex ∙ ap executionOf p)
+        (ended s x (meaning reference points) (recordAt archive (place .measure)) _ start g size
+        (h .gathers points c ∙ gather-done _ g _ (chain-ends archive (place .used) quarterKind last link end)))
+
+    pub walks-uncounted : (leb 1 (g .count) && leb (g .count) 2976) ≡ false → Walks archive place reference curve table (g .sheet) (walked.Refused badCount)
+    walks-uncounted k = record { by = λ points links c. walked-uncounted archive (meant archive place) (basisWith points links) g (ends points c) k; size = h .size }
+
+    module _ (counted : (leb 1 (g .count) && leb (g .count) 2976) ≡ true) where
+      pub walks-unreadable : g .fine ≡ false → Walks archive place reference curve table (g .sheet) (walked.Refused outOfRange)
+      walks-unreadable f = record {
+        by = λ points links c. walked-unreadable archive (meant archive place) (basisWith points links) g (ends points c) counted f;
+        size = h .size;
+      }
+
+      pub walks-given : g .fine ≡ true → Walks archive place reference curve table (g .sheet) (walked.Count (g .count))
+      walks-given f = record {
+        by = λ points links c.
+            walked-given archive (meant archive place) (basisWith points links) g (ends points c) counted f
+            (λ q r. exact-small (directionOf (recordAt archive (place .measure))) (executionOf (recordAt archive (place .measure))) reference points q b r);
+        size = h .size;
+      }
+
+-- ---- a place of the sheet
+
+module _ (sheet : List ℕ) (count m : ℕ) (magnitude : Exact) (e : magnitude ≡ exact.Of m) where
+  pub entered-past : length sheet ≤ count → (true ≡ isInRange magnitude) × (sheet ≡ entered sheet count magnitude)
+  entered-past h = rw e (refl, sym (set-out sheet count m h))
+
+  pub entered-at : (true ≡ isInRange magnitude) × (set sheet count m ≡ entered sheet count magnitude)
+  entered-at = rw e (refl, refl)

@@ -1,0 +1,78 @@
+-- `quarters::exact::exact_of` meets its contract. Assumes nothing.
+use mathlib.Core.List.{[]}
+use native.Mathlib.Nat.{mul-le-mul}
+use native.Mathlib.Omega.{arith}
+use Rattle.rules.specs.Terms.{quarterOf}
+use Rattle.energy.specs.References.{meaning}
+use Rattle.quarters.proofs.Exacts.{exact-unlimited, exact-unreferred, exact-room, exact-is}
+use borrow.Author.Needs.{needs}
+use Rattle.quarters.proofs.exact.exact_of.Statement.{statement}
+use Rattle.quarters.proofs.exact.exact_of.Tie as tie
+
+limitation-of-requires : tie.Need-limitation-of-requires
+limitation-of-requires c κs = search needs
+
+enum-known-l : tie.Need-enum-known-l
+enum-known-l c = search needs
+
+enum-told : tie.Need-enum-told
+enum-told c = search needs
+
+returns : tie.Need-returns
+returns c = let a = c .before .before .before .before .before .args in
+    λ points measure index t. exact-unlimited (a .direction) (a .execution) (meaning (a .reference) points) (quarterOf measure index (a .r .now)) (c .enum-told .given .1) (c .before .before .limitation-of .ensures measure index)
+
+numerator-of-requires : tie.Need-numerator-of-requires
+numerator-of-requires c κs = search needs
+
+enum-known-t : tie.Need-enum-known-t
+enum-known-t c = search needs
+
+enum-told-2 : tie.Need-enum-told-2
+enum-told-2 c = search needs
+
+returns-2 : tie.Need-returns-2
+returns-2 c = let a = c .before .before .before .before .before .before .before .before .before .args in
+    λ points measure index t. exact-unreferred (a .direction) (a .execution) (meaning (a .reference) points) (quarterOf measure index (a .r .now)) (c .before .before .before .before .l .given .1) (c .before .before .before .before .before .before .limitation-of .ensures measure index)
+    (c .enum-told2 .given .1) (c .before .before .numerator-of .ensures points measure index t)
+
+denominator-requires : tie.Need-denominator-requires
+denominator-requires c κs = search needs
+
+mul-magnitude : tie.Need-mul-magnitude
+mul-magnitude c = search needs
+
+add-magnitude : tie.Need-add-magnitude
+add-magnitude c = let a = c .before .before .before .before .before .before .before .before .before .before .before .args in
+    let points = c .before .before .before .before .before .before .before .before .before .before .before .pre .1 .0 .0 in
+    let r = exact-room (a .direction) (a .execution) (meaning (a .reference) points) (quarterOf [] 0 (a .r .now)) (c .before .before .before .before .before .before .l .given .1) (c .before .before .before .before .before .before .before .before .limitation-of .ensures [] 0) (c .before .before .t .given .1) (c .before .before .before .before .numerator-of .ensures points [] 0 (c .before .before .before .before .before .before .before .before .before .before .before .pre .1 .0 .1)) in
+    omega arith
+
+magnitude-requires : tie.Need-magnitude-requires
+magnitude-requires c κs = let a = c .before .before .before .before .before .before .before .before .before .before .before .args in
+    let points = c .before .before .before .before .before .before .before .before .before .before .before .pre .1 .0 .0 in
+    let r = exact-room (a .direction) (a .execution) (meaning (a .reference) points) (quarterOf [] 0 (a .r .now)) (c .before .before .before .before .before .before .l .given .1) (c .before .before .before .before .before .before .before .before .limitation-of .ensures [] 0) (c .before .before .t .given .1) (c .before .before .before .before .numerator-of .ensures points [] 0 (c .before .before .before .before .before .before .before .before .before .before .before .pre .1 .0 .1)) in
+    omega (arith, mul-le-mul (r .0) (c .denominator .ensures .small))
+
+returns-3 : tie.Need-returns-3
+returns-3 c = let a = c .before .before .before .before .before .before .before .before .before .before .before .before .args in
+    λ points measure index t. exact-is (a .direction) (a .execution) (meaning (a .reference) points) (quarterOf measure index (a .r .now)) (c .before .before .before .before .before .before .before .l .given .1) (c .before .before .before .before .before .before .before .before .before .limitation-of .ensures measure index)
+    (c .before .before .before .t .given .1) (c .before .before .before .before .before .numerator-of .ensures points measure index t) (c .before .denominator .ensures .is points) (c .magnitude .ensures)
+
+pub exact-of-spec : {M : Type 1} → statement M
+exact-of-spec =
+    tie.close
+    (tie.spec
+    limitation-of-requires
+    enum-known-l
+    enum-told
+    returns
+    numerator-of-requires
+    enum-known-t
+    enum-told-2
+    returns-2
+    denominator-requires
+    mul-magnitude
+    add-magnitude
+    magnitude-requires
+    returns-3)

@@ -1,0 +1,77 @@
+-- What the code says of a quarter: its limitation value, its reference power and its exact magnitude, held without a sign.
+use mathlib.Core.Path.{_≡_}
+use mathlib.Core.Bool.{Bool, true, false, _&&_}
+use mathlib.Core.List.{List}
+use Prim.Native.Nat.{ℕ, _+_, _*_, _≤_}
+use lib.IntN.{ℤ, subℕ}
+use Rattle.rules.specs.declared.Direction.{Direction}
+use Rattle.rules.specs.declared.Execution.{Execution}
+use Rattle.rules.specs.Terms.{isPower, Point, Quarter}
+use Rattle.rules.specs.Reference as book
+use Rattle.rules.specs.Settle.{limitReadable, referenceReadable}
+use Rattle.energy.specs.declared.reference.Reference.{Reference}
+use Rattle.energy.specs.declared.reference.Reference.the-variants.{OnCurve, LastMeasured, OnIrradiance, ByFactor, AsPlanned}
+use Rattle.energy.specs.References.{powerBias}
+use Rattle.curve.specs.declared.Curve.{Curve}
+use Rattle.curve.specs.Tables.{Tabulates}
+use Rattle.quarters.specs.declared.exact.Power.{Power}
+use Rattle.quarters.specs.declared.exact.Power.the-variants as power
+use Rattle.quarters.specs.declared.exact.Numerator.{Numerator}
+use Rattle.quarters.specs.declared.exact.Numerator.the-variants as numerator
+use Rattle.quarters.specs.declared.exact.Exact.{Exact}
+use Rattle.quarters.specs.declared.exact.Exact.the-variants as exact
+
+-- where T is read from a curve, the table is of the curve with these points
+abbrev pub Curved : Reference → Curve → List ℕ → List Point → Type 0
+Curved (OnCurve a b pn) curve table points = Tabulates curve table points
+Curved (LastMeasured p0) curve table points = Unit {0}
+Curved (OnIrradiance a b) curve table points = Unit {0}
+Curved (ByFactor pn) curve table points = Unit {0}
+Curved AsPlanned curve table points = Unit {0}
+
+-- of a curve with some points
+abbrev pub Tabled : Reference → Curve → List ℕ → Type 0
+Tabled reference curve table = (points : List Point) × Curved reference curve table points
+
+-- ---- powers and the limitation value
+
+-- a measured power, limit or plan raised by 1,000,000,000; or it is out of range
+abbrev pub RaisedFrom : ℤ → Power → Type 0
+RaisedFrom z (power.Of n) = (isPower z ≡ true) × (z ≡ subℕ n powerBias) × (n ≤ 2000000000)
+RaisedFrom z power.OutOfRange = isPower z ≡ false
+
+-- L, raised likewise; or a field that it needs is out of range
+abbrev pub LimitedTo : Direction → Execution → Quarter → Power → Type 0
+LimitedTo direction execution q (power.Of l) =
+    (limitReadable execution q ≡ true)
+    × (book.limitation direction execution (q .measured) (q .limit) ≡ subℕ l powerBias)
+    × (l ≤ 2000000000)
+LimitedTo direction execution q power.OutOfRange = limitReadable execution q ≡ false
+
+-- ---- reference power
+
+-- a numerator over d, held as t with `low` too much: T is at most 199,999,000,000,000 W away from 0, and all fits 64 bits
+pub record HeldAs (d : ℕ) (z : ℤ) (t low : ℕ) : Type 0 where
+  pub is : z ≡ subℕ t low
+  pub above : t ≤ low + 199999000000000 * d
+  pub below : low ≤ t + 199999000000000 * d
+  pub fits : t ≤ 4000000000000000000
+  pub small : low ≤ 192000000000000
+
+-- the numerator of the quarter's T; or a field that it needs is out of range
+abbrev pub ReferredTo : book.Reference → Quarter → Numerator → Type 0
+ReferredTo reference q (numerator.Of t low) =
+    (referenceReadable reference q ≡ true) × HeldAs (book.denominator reference) (book.numerator reference q) t low
+ReferredTo reference q numerator.OutOfRange = referenceReadable reference q ≡ false
+
+-- ---- exact magnitude
+
+-- the numerator of the exact magnitude over 4 × D; or a needed field is out of range
+abbrev pub exactAnswer : Bool → ℕ → Exact
+exactAnswer true m = exact.Of m
+exactAnswer false m = exact.OutOfRange
+
+-- the answer to a quarter of a measure
+abbrev pub quarterAnswer : Direction → Execution → book.Reference → Quarter → Exact
+quarterAnswer direction execution reference q =
+    exactAnswer (limitReadable execution q && referenceReadable reference q) (book.exactOf direction execution reference q)

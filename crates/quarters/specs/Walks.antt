@@ -1,0 +1,54 @@
+-- A walk over a measure's quarters: what it answers, and what it leaves in the sheet of exact magnitudes.
+use mathlib.Core.Path.{_≡_}
+use mathlib.Core.Bool.{Bool, true, false}
+use mathlib.Core.List.{List}
+use Prim.Native.Nat.{ℕ, _/_, _^_, _<_}
+use lib.ListN.{length, take, set}
+use Rattle.rules.specs.Outcome.{Outcome, refused, given}
+use Rattle.rules.specs.Numbers.{sum}
+use Rattle.rules.specs.Terms.{Point, Quarter}
+use Rattle.rules.specs.Settle as settle
+use Rattle.rules.specs.Settle.{Basis, quartersOf, exactsOf, measureDenominator}
+use Rattle.place.specs.declared.Place.{Place}
+use Rattle.place.specs.Places.{meant}
+use Rattle.curve.specs.declared.Curve.{Curve}
+use Rattle.energy.specs.declared.reference.Reference.{Reference}
+use Rattle.energy.specs.References.{meaning}
+use Rattle.quarters.specs.declared.exact.Exact.{Exact}
+use Rattle.quarters.specs.declared.exact.Exact.the-variants as exact
+use Rattle.quarters.specs.declared.Walked.{Walked}
+use Rattle.quarters.specs.declared.Walked.the-variants as walked
+use Rattle.quarters.specs.Exacts.{Curved}
+
+-- ---- one quarter
+
+abbrev pub isInRange : Exact → Bool
+isInRange (exact.Of m) = true
+isInRange exact.OutOfRange = false
+
+-- a magnitude at its place of the sheet, if the sheet has that place
+abbrev pub entered : List ℕ → ℕ → Exact → List ℕ
+entered sheet count (exact.Of m) = set sheet count m
+entered sheet count exact.OutOfRange = sheet
+
+-- ---- all quarters
+
+-- the count of quarters; or 2, 3, 8 or 9
+abbrev pub walkedAnswer : Outcome (List Quarter) → Walked
+walkedAnswer (refused n) = walked.Refused n
+walkedAnswer (given quarters) = walked.Count (length quarters)
+
+pub record WalkedBy (archive : List ℕ) (place : settle.Place) (basis : Basis) (sheet : List ℕ) (answer : Walked) : Type 0 where
+  pub answers : answer ≡ walkedAnswer (quartersOf archive place basis)
+  -- the sheet's first places hold the numerators of the exact magnitudes
+  pub writes : (quarters : List Quarter) → quartersOf archive place basis ≡ given quarters
+      → take (length quarters) sheet ≡ exactsOf place basis quarters
+  -- their sum, rounded down to whole Wh, fits a signed number of 64 bits
+  pub fits : (quarters : List Quarter) → quartersOf archive place basis ≡ given quarters
+      → sum (exactsOf place basis quarters) / measureDenominator basis < 2 ^ 63
+
+-- with every basis that the reference stands for: the curve's points, and the links followed for it
+pub record Walks (archive : List ℕ) (place : Place) (reference : Reference) (curve : Curve) (table sheet : List ℕ) (answer : Walked) : Type 0 where
+  pub by : (points : List Point) (links : ℕ) → Curved reference curve table points
+      → WalkedBy archive (meant archive place) (record { reference = meaning reference points; links = links }) sheet answer
+  pub size : length sheet ≡ 2976

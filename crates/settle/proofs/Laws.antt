@@ -1,0 +1,98 @@
+-- Settle's promise, by what the tests before the list found.
+use mathlib.Core.Path.{_≡_, refl, sym, _∙_, ap, subst}
+use mathlib.Core.List.{List, _++_}
+use Prim.Native.Nat.{ℕ, _≤_, _<_}
+use native.Mathlib.Omega.{arith}
+use borrow.Author.Tests.{le-leb, lt-leb}
+use lib.IntN.{ℤ}
+use lib.ListN.{length, take, drop}
+use lib.Seq.{length-take-le}
+use Rattle.rules.specs.Outcome.{Outcome, refused, given, _>>=_, _>>_, require}
+use Rattle.rules.specs.Refusals.{noRoom}
+use Rattle.rules.specs.Numbers.{sumℤ}
+use Rattle.rules.specs.Booking.{amountsOf}
+use Rattle.rules.specs.Settle.{Answer, answerOf, Settlement, countOf, settled, settle, listAfter}
+use Rattle.rules.specs.Promises.{Settles}
+use Rattle.rules.proofs.Settled.{amounts-length}
+use Rattle.rules.proofs.Demand.{settle-keeps}
+use Rattle.units.specs.declared.WattHour.{WattHour}
+use Rattle.settle.specs.declared.Settled.the-variants as answer
+use Rattle.settle.specs.declared.Measure.{Measure}
+use Rattle.settle.specs.declared.Prepared.{Prepared}
+use Rattle.settle.specs.declared.Prepared.the-variants as prepared
+use Rattle.settle.specs.Answers.{answered, preparedNumber, Stands, Prepares}
+
+same-answer : (count count′ : ℕ) (total total′ : ℤ) (links links′ : ℕ) → count ≡ count′ → total ≡ total′ → links ≡ links′
+    → _≡_ {A = Answer} (record { number = 0; count = count; total = total; links = links }) (record { number = 0; count = count′; total = total′; links = links′ })
+same-answer count count′ total total′ links links′ c t l = rw (c, t, l)
+
+module _ (archive : List ℕ) (p k : ℕ) (list : List ℤ) where
+  -- an outcome of settle known whole
+  by-outcome : (o : Outcome Settlement) (later : List ℤ) (a : Answer) → settle archive p k (length list) ≡ o → a ≡ answerOf o → later ≡ listAfter o list
+      → Settles archive p k list later a
+  by-outcome o later a e f g =
+      settle-keeps archive p k list later a (f ∙ ap answerOf (sym e)) (g ∙ ap (λ (x : Outcome Settlement). listAfter x list) (sym e))
+
+  not-settled : (n : ℕ) → settled archive p k ≡ refused n → settle archive p k (length list) ≡ refused n
+  unfolding settle _>>=_
+  not-settled n e = rw e
+
+  pub settles-refused : (n : ℕ) → settled archive p k ≡ refused n → Settles archive p k list list (answered (answer.Refused n))
+  settles-refused n e = by-outcome (refused n) list _ (not-settled n e) refl refl
+
+  module _ (sheet : List ℕ) (m : Measure) (s : Stands (settled archive p k) sheet m) where
+    pub sheet-length : length (take (m .count) sheet) ≡ m .count
+    sheet-length = length-take-le (m .count) sheet (omega (arith, s .few, s .size))
+
+    pub list-long : m .count ≤ length list → length (take (m .count) sheet) ≤ length list
+    list-long h = omega (arith, sheet-length)
+
+    pub count-is : countOf (s .settlement) ≡ m .count
+    count-is =
+        ap (λ (l : List ℤ). length l) (s .amounts-are)
+        ∙ amounts-length (m .direction) (m .denominator) (take (m .count) sheet)
+        ∙ sheet-length
+
+    no-place : length list < m .count → settle archive p k (length list) ≡ refused noRoom
+    unfolding settle _>>=_ _>>_ require
+    no-place h = rw (s .is, lt-leb (countOf (s .settlement)) (length list) (omega (arith, count-is)))
+
+    pub settles-short : length list < m .count → Settles archive p k list list (answered (answer.Refused noRoom))
+    settles-short h = by-outcome (refused noRoom) list _ (no-place h) refl refl
+
+    placed : m .count ≤ length list → settle archive p k (length list) ≡ given (s .settlement)
+    unfolding settle _>>=_ _>>_ require
+    placed h = rw (s .is, le-leb (countOf (s .settlement)) (length list) (omega (arith, count-is)))
+
+    -- the amounts booked into the list's first places, and their sum
+    pub settles-given : (later : List ℤ) (count : ℕ) (total : WattHour) (links : ℕ) → m .count ≤ length list
+        → later ≡ amountsOf (m .direction) (m .denominator) (take (m .count) sheet) ++ drop (length (take (m .count) sheet)) list
+        → count ≡ m .count → total .0 ≡ sumℤ (amountsOf (m .direction) (m .denominator) (take (m .count) sheet)) → links ≡ m .links
+        → Settles archive p k list later (answered (answer.Given count total links))
+    settles-given later count total links h l c t k′ =
+        by-outcome (given (s .settlement)) later _ (placed h)
+        (same-answer _ _ _ _ _ _ (c ∙ sym count-is) (t ∙ ap sumℤ (sym (s .amounts-are))) (k′ ∙ sym (s .links-are)))
+        (l ∙ same-list)
+      where
+        taken : length (take (m .count) sheet) ≡ countOf (s .settlement)
+        taken = sheet-length ∙ sym count-is
+
+        same-list : (amountsOf (m .direction) (m .denominator) (take (m .count) sheet) ++ drop (length (take (m .count) sheet)) list)
+            ≡ s .settlement .amounts ++ drop (countOf (s .settlement)) list
+        same-list =
+            ap (λ (n : ℕ). amountsOf (m .direction) (m .denominator) (take (m .count) sheet) ++ drop n list) taken
+            ∙ ap (λ (x : List ℤ). x ++ drop (countOf (s .settlement)) list) (sym (s .amounts-are))
+
+-- ---- by the answer of the tests
+
+module _ (archive : List ℕ) (p k : ℕ) (sheet : List ℕ) (x : Prepared) (h : Prepares (settled archive p k) sheet x) where
+  pub ready : (m : Measure) → x ≡ prepared.Ready m → Stands (settled archive p k) sheet m
+  unfolding Prepares
+  ready m e = subst (Prepares (settled archive p k) sheet) e h
+
+  pub settles-unready : (list : List ℤ) (n r : ℕ) → x ≡ prepared.Refused n → r ≡ preparedNumber x → Settles archive p k list list (answered (answer.Refused r))
+  unfolding Prepares
+  settles-unready list n r e f =
+      let settled-refused : settled archive p k ≡ refused n = subst (Prepares (settled archive p k) sheet) e h in
+      let same : r ≡ n = f ∙ ap preparedNumber e in
+      rw same (settles-refused archive p k list n settled-refused)

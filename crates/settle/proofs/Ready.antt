@@ -1,0 +1,75 @@
+-- A measure ready to be booked, from the walk over its quarters.
+use mathlib.Core.Path.{_≡_, refl, sym, _∙_, ap, subst}
+use mathlib.Core.Bool.{Bool, true, _&&_}
+use mathlib.Core.List.{List, [], _∷_}
+use Prim.Native.Nat.{ℕ, suc, _+_, _*_, _/_, _^_, _≤_, _<_}
+use native.Mathlib.Omega.{arith}
+use lib.Dec.{leb, leb→le}
+use lib.ListN.{length, take}
+use Rattle.rules.specs.Outcome.{Outcome, refused, given, _>>=_}
+use Rattle.rules.specs.declared.Direction.{Direction}
+use Rattle.rules.specs.Numbers.{sum, mapFrom}
+use Rattle.rules.specs.Terms.{Quarter, quarterOf, directionOf}
+use Rattle.rules.specs.Booking.{amountsOf}
+use Rattle.rules.specs.Settle.{Place, Basis, quartersOf, measureDenominator, exactsOf, settlementOf}
+use Rattle.rules.proofs.Inversion.{Holds, holds-bind, holds-require, holds-given, both-right}
+use Rattle.quarters.specs.declared.Walked.{Walked}
+use Rattle.quarters.specs.declared.Walked.the-variants as walked
+use Rattle.quarters.specs.Walks.{walkedAnswer, WalkedBy}
+use Rattle.settle.specs.declared.Measure.{Measure}
+use Rattle.settle.specs.declared.Prepared.the-variants as prepared
+use Rattle.settle.specs.Answers.{Stands, Prepares, settledOn}
+
+map-from-length : {A B : Type 0} (f : ℕ → A → B) (i : ℕ) (l : List A) → length (mapFrom f i l) ≡ length l
+map-from-length f i [] = refl
+map-from-length f i (a ∷ l) = ap suc (map-from-length f (i + 1) l)
+
+quarters-few : (archive : List ℕ) (place : Place) (basis : Basis) → Holds (λ quarters. length quarters ≤ 2976) (quartersOf archive place basis)
+unfolding quartersOf
+quarters-few archive place basis =
+    holds-bind _ _ (λ entries e. holds-require _ 8 _ (λ t. holds-require _ 9 _ (λ u.
+    holds-given _ (omega (arith, map-from-length (λ index e. quarterOf (place .measure .bytes) index (e .bytes)) 0 entries, leb→le (length entries) 2976 (both-right (leb 1 (length entries)) (leb (length entries) 2976) t))))))
+
+module _ (archive : List ℕ) (place : Place) (basis : Basis) (sheet : List ℕ) (x : Walked) (w : WalkedBy archive place basis sheet x) where
+  pub walk-refused : (n : ℕ) → x ≡ walked.Refused n → Prepares (settledOn archive place (given basis)) sheet (prepared.Refused n)
+  unfolding Prepares _>>=_
+  walk-refused n e = rw (go (quartersOf archive place basis) (sym e ∙ w .answers))
+    where
+      go : (o : Outcome (List Quarter)) → walked.Refused n ≡ walkedAnswer o → o ≡ refused n
+      go (refused k) f = cc
+      go (given quarters) f = let z : _≡_ {A = ℕ} 0 1 = cc in absurd (omega arith)
+
+  -- the quarters that were counted
+  pub record Counted (count : ℕ) : Type 0 where
+    pub quarters : List Quarter
+    pub are : quartersOf archive place basis ≡ given quarters
+    pub is : count ≡ length quarters
+    pub few : count ≤ 2976
+
+  pub counted : (count : ℕ) → x ≡ walked.Count count → Counted count
+  counted count e = go (quartersOf archive place basis) refl (sym e ∙ w .answers)
+    where
+      go : (o : Outcome (List Quarter)) → quartersOf archive place basis ≡ o → walked.Count count ≡ walkedAnswer o → Counted count
+      go (refused k) q f = let z : _≡_ {A = ℕ} 0 1 = cc in absurd (omega arith)
+      go (given quarters) q f =
+          let i : count ≡ length quarters = cc in
+          record { quarters = quarters; are = q; is = i; few = omega (arith, quarters-few archive place basis .of quarters q) }
+
+  pub stands : (m : Measure) → Counted (m .count) → m .direction ≡ directionOf (place .measure .bytes) → m .denominator ≡ measureDenominator basis
+      → m .links ≡ place .links + basis .links + m .count → 0 < m .denominator → m .denominator ≤ 2 ^ 63 → length sheet ≡ 2976
+      → Prepares (settledOn archive place (given basis)) sheet (prepared.Ready m)
+  unfolding Prepares _>>=_
+  stands m c d n l positive low size = record {
+    settlement = settlementOf place basis (c .quarters);
+    is = rw (c .are);
+    amounts-are = rw (d, n, taken);
+    links-are = rw (l, c .is);
+    size = size;
+    few = c .few;
+    positive = positive;
+    low = low;
+    fits = rw (n, taken) (w .fits (c .quarters) (c .are));
+  }
+    where
+      taken : take (m .count) sheet ≡ exactsOf place basis (c .quarters)
+      taken = ap (λ (k : ℕ). take k sheet) (c .is) ∙ w .writes (c .quarters) (c .are)

@@ -1,0 +1,27 @@
+use mathlib.Core.List.{[]}
+use borrow.Author.Needs.{needs}
+use Rattle.settle.proofs.off_curve.Statement.{statement}
+use Rattle.settle.proofs.off_curve.Tie as tie
+use Rattle.settle.proofs.off_curve.Reads as reads
+use Rattle.settle.proofs.off_curve.Lts as lts
+use Rattle.settle.proofs.measured.Reads as measured-reads
+
+-- src/lib.rt:133:48
+slice-aggregate-measured : tie.Need-slice-aggregate-measured
+slice-aggregate-measured c = search needs
+
+-- src/lib.rt:133:5
+measured-requires : tie.Need-measured-requires
+measured-requires c κs = let p = c .before .before .before .before .pre in (p .0, (p .1 .0 .0, (([], p .1 .0 .1 _ _ []), p .1 .1)))
+
+-- src/lib.rt:119:1
+same-length : tie.Need-same-length
+same-length c = search needs
+
+-- src/lib.rt:119:1
+returns : tie.Need-returns
+returns c = λ points. c .before .before .measured .ensures points (c .before .before .before .before .before .before .before .pre .1 .0 .1 _ _ points)
+
+pub off-curve-spec : {M : Type 1} → statement M
+off-curve-spec =
+    tie.close (tie.spec slice-aggregate-measured measured-requires same-length returns)
