@@ -1,10 +1,42 @@
-# make run: prove the rule book and print its figures. make test: the whole gate.
-.PHONY: run test
+# make run      build the library and settle the example archive from C
+# make test     the whole gate: comparisons with the outside program, then every proof from nothing
+# make lib      libsandegmur.a and its header in target/lib, proved first
+# make compare  200,000 generated calls against the outside program (CALLS=, SEED=)
+# make bench    times beside the outside program's, as ratios
+.PHONY: run test lib example check-c compare bench
 
-run:
-	rt check rules
-	@sed -n '/^pub figures-hold/,/^$$/p' crates/rules/proofs/Figures.antt
-	@sed -n '/^figures =/,/^$$/p' crates/rules/specs/Figures.antt
+LIB := target/lib
+CFLAGS := -std=c99 -Wall -Wextra -Werror -pedantic -O2
+SEED ?= 1
+CALLS ?= 200000
+CARGO := cd reference && SANDEGMUR_LIB=$(CURDIR)/$(LIB) CARGO_TARGET_DIR=$(CURDIR)/target/reference cargo
+
+run: example
+	$(LIB)/example
 
 test:
 	.ci/run
+
+lib:
+	rt staticlib host
+	mkdir -p $(LIB)
+	cp target/staticlib/libhost.a $(LIB)/libsandegmur.a
+	cp include/sandegmur.h $(LIB)/
+
+example: lib
+	$(CC) $(CFLAGS) -I$(LIB) examples/host.c $(LIB)/libsandegmur.a -o $(LIB)/example
+
+check-c: example
+	$(LIB)/example | cmp - examples/host.expected
+	for compiler in gcc clang; do \
+	  command -v $$compiler > /dev/null || continue; \
+	  $$compiler $(CFLAGS) -g -I$(LIB) tests/host.c $(LIB)/libsandegmur.a -o $(LIB)/test-$$compiler || exit 1; \
+	  $(LIB)/test-$$compiler || exit 1; \
+	done
+	if command -v valgrind > /dev/null; then valgrind -q --error-exitcode=1 $(LIB)/test-gcc; fi
+
+compare: lib
+	$(CARGO) run -q --release --features compare --bin compare -- $(SEED) $(CALLS)
+
+bench: lib
+	$(CARGO) run -q --release --features compare --bin bench

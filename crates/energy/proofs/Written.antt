@@ -21,7 +21,7 @@ module _ (d : ℕ) (ms : List ℕ) (p : 0 < d) where
   whole : sum (carriedFrom d 0 ms) ≡ sum ms / d
   whole = ap sum (sym from-zero) ∙ omega (arith, booked-sum d 0 ms p, zero-div d, ap (λ (n : ℕ). n / d) (zero-add (sum ms)))
 
-  amounts-are : (s : Direction) → amountsOf s d ms ≡ map (signed s) (carriedFrom d 0 ms)
+  pub amounts-are : (s : Direction) → amountsOf s d ms ≡ map (signed s) (carriedFrom d 0 ms)
   unfolding amountsOf
   amounts-are s = ap (map (signed s)) from-zero
 
@@ -51,7 +51,7 @@ module _ (d : ℕ) (ms : List ℕ) (r t i : ℕ) (p : 0 < d) (h : Running d ms r
   abbrev left : ℕ
   left = (r + getD ms i 0) % d
 
-  onward : carriedFrom d r (drop i ms) ≡ amount ∷ carriedFrom d left (drop (i + 1) ms)
+  pub onward : carriedFrom d r (drop i ms) ≡ amount ∷ carriedFrom d left (drop (i + 1) ms)
   onward = rw (drop-cons ms i 0 within, add-one i)
 
   pub running-next : Running d ms left (t + amount) (i + 1)

@@ -3,6 +3,10 @@ use Prim.Native.Nat.{ℕ, _+_, _/_, _%_}
 use Rattle.energy.specs.declared.carry.Carry.{Carry}
 use Rattle.energy.specs.declared.carry.Booked.{Booked}
 
+-- this remainder over this denominator
+abbrev pub carryOf : ℕ → ℕ → Carry
+carryOf remainder denominator = record { remainder = remainder; denominator = denominator }
+
 -- the whole Wh that the remainder and the magnitude make, and the remainder that is left
 abbrev pub bookedOf : Carry → ℕ → Booked
 bookedOf c magnitude = record {

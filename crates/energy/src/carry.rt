@@ -5,7 +5,7 @@ ghost use mathlib.Core.List.{_++_};
 ghost use lib.ListN.{length, drop};
 ghost use Rattle.rules.specs.Numbers.{sum, sumℤ};
 ghost use Rattle.rules.specs.Booking.{signed as signedOf, amountsOf};
-ghost use Rattle.energy.specs.Carrying.{bookedOf};
+ghost use Rattle.energy.specs.Carrying.{carryOf, bookedOf};
 use rules::Direction;
 
 // What is carried on to the next quarter, less than 1 Wh: `remainder` over `denominator`.
@@ -57,6 +57,29 @@ pub fn book(c: &mut Carry, magnitude: u64) -> u64
     let b = booking(*c, magnitude);
     *c = b.carry;
     b.amount
+}
+
+// What one booking gives, as plain numbers.
+pub struct Step {
+    pub amount: u64,
+    pub remainder: u64,
+}
+
+// One magnitude booked on a carry of its own, which is made here and lent.
+pub fn book_step(remainder: u64, denominator: u64, magnitude: u64) -> Step
+    requires { ⌜ (remainder < denominator) × (denominator ≤ 2 ^ 63) ⌝ }
+    ensures { λ r. ⌜ (r .amount ≡ bookedOf (carryOf remainder denominator) magnitude .amount)
+        × (r .remainder ≡ bookedOf (carryOf remainder denominator) magnitude .carry .remainder) ⌝ }
+{
+    let mut carry = Carry {
+        remainder,
+        denominator,
+    };
+    let amount = book(&mut carry, magnitude);
+    Step {
+        amount,
+        remainder: carry.remainder,
+    }
 }
 
 // Minus for the positive direction.

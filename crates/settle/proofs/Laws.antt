@@ -90,9 +90,11 @@ module _ (archive : List ℕ) (p k : ℕ) (sheet : List ℕ) (x : Prepared) (h :
   unfolding Prepares
   ready m e = subst (Prepares (settled archive p k) sheet) e h
 
-  pub settles-unready : (list : List ℤ) (n r : ℕ) → x ≡ prepared.Refused n → r ≡ preparedNumber x → Settles archive p k list list (answered (answer.Refused r))
+  pub not-ready : (n : ℕ) → x ≡ prepared.Refused n → settled archive p k ≡ refused n
   unfolding Prepares
+  not-ready n e = subst (Prepares (settled archive p k) sheet) e h
+
+  pub settles-unready : (list : List ℤ) (n r : ℕ) → x ≡ prepared.Refused n → r ≡ preparedNumber x → Settles archive p k list list (answered (answer.Refused r))
   settles-unready list n r e f =
-      let settled-refused : settled archive p k ≡ refused n = subst (Prepares (settled archive p k) sheet) e h in
       let same : r ≡ n = f ∙ ap preparedNumber e in
-      rw same (settles-refused archive p k list n settled-refused)
+      rw same (settles-refused archive p k list n (not-ready n e))

@@ -1,0 +1,23 @@
+-- `host::sandegmur_fresh` meets its contract.
+use mathlib.Core.Path.{refl}
+use Rattle.rules.specs.Refusals.{freshRefusals}
+use Rattle.rules.proofs.Refusals.{every-call-answers}
+use Rattle.host.proofs.Numbers.{number-fits}
+use borrow.Author.Needs.{needs}
+use Rattle.host.proofs.sandegmur_fresh.Statement.{statement}
+use Rattle.host.proofs.sandegmur_fresh.Tie as tie
+
+fresh-requires : tie.Need-fresh-requires
+fresh-requires c κs = search needs
+
+cast-result : tie.Need-cast-result
+cast-result c = number-fits freshRefusals refl _ (every-call-answers .freshens (c .before .before .before .before .before .args .archive .now)) _ (c .before .before .fresh .ensures .answers)
+
+same-length : tie.Need-same-length
+same-length c = search needs
+
+returns : tie.Need-returns
+returns c = search needs
+
+pub sandegmur-fresh-spec : {M : Type 1} → statement M
+sandegmur-fresh-spec = tie.close (tie.spec fresh-requires cast-result same-length returns)

@@ -1,0 +1,184 @@
+//! Compares the linked library with the reference over generated calls: results and every later byte.
+//!
+//! Arguments: seed, count, and the index of the first call if it isn't 0. Exit status 1 on the first difference.
+
+#[path = "shared/host.rs"]
+mod host;
+
+use reference::generate::{self, Call};
+use std::env;
+use std::fmt::Write;
+use std::process::ExitCode;
+
+/// Bytes lent to the library: at any alignment, with bytes around them that must stay.
+struct Lent {
+    bytes: Vec<u8>,
+    start: usize,
+    end: usize,
+}
+
+const AROUND: usize = 64;
+const STAY: u8 = 0xa5;
+
+impl Lent {
+    fn new(bytes: &[u8], index: u64) -> Lent {
+        let start = AROUND + (index % 8) as usize;
+        let mut all = vec![STAY; start + bytes.len() + AROUND];
+        all[start..start + bytes.len()].copy_from_slice(bytes);
+        Lent { bytes: all, start, end: start + bytes.len() }
+    }
+
+    fn part(&mut self) -> &mut [u8] {
+        &mut self.bytes[self.start..self.end]
+    }
+
+    /// The difference from what should stand there, if any.
+    fn check(&self, name: &str, expected: &[u8]) -> Result<(), String> {
+        let around = self.bytes[..self.start].iter().chain(&self.bytes[self.end..]);
+        if around.copied().any(|byte| byte != STAY) {
+            return Err(format!("bytes around the {name} changed"));
+        }
+        let found = &self.bytes[self.start..self.end];
+        match found.iter().zip(expected).position(|(a, b)| a != b) {
+            None => Ok(()),
+            Some(at) => Err(format!("{name} differs at byte {at}: reference {}, library {}", expected[at], found[at])),
+        }
+    }
+}
+
+fn number(reference: u32, library: u32) -> Result<(), String> {
+    if reference == library {
+        Ok(())
+    } else {
+        Err(format!("number: reference {reference}, library {library}"))
+    }
+}
+
+fn hex(bytes: &[u8]) -> String {
+    let mut text = String::new();
+    for (at, byte) in bytes.iter().enumerate() {
+        if at % 32 == 0 && at > 0 {
+            text.push('\n');
+        }
+        let _ = write!(text, "{byte:02x}");
+    }
+    text
+}
+
+/// Runs one call on both sides.
+fn compare(call: &Call, index: u64) -> Result<(), String> {
+    match call {
+        Call::Settle { archive, p, k, list, result } => {
+            let (mut list_after, mut result_after) = (list.clone(), result.clone());
+            let expected = reference::host_settle(archive, *p, *k, &mut list_after, &mut result_after);
+            let mut lent = Lent::new(archive, index);
+            let mut lent_list = Lent::new(list, index / 8);
+            let mut lent_result = Lent::new(result, index / 64);
+            let found = host::settle(lent.part(), *p, *k, lent_list.part(), lent_result.part());
+            number(expected, found)?;
+            lent.check("archive", archive)?;
+            lent_list.check("list", &list_after)?;
+            lent_result.check("result", &result_after)
+        }
+        Call::Fresh { archive } => {
+            let mut after = archive.clone();
+            let expected = reference::fresh(&mut after);
+            let mut lent = Lent::new(archive, index);
+            let found = host::fresh(lent.part());
+            number(expected, found)?;
+            lent.check("archive", &after)
+        }
+        Call::Append { archive, owner, record } => {
+            let mut after = archive.clone();
+            let expected = reference::append(&mut after, *owner, record);
+            let mut lent = Lent::new(archive, index);
+            let mut lent_record = Lent::new(record, index / 8);
+            let found = host::append(lent.part(), *owner, lent_record.part());
+            number(expected, found)?;
+            lent.check("archive", &after)?;
+            lent_record.check("record", record)
+        }
+        Call::Audit { archive } => {
+            let mut lent = Lent::new(archive, index);
+            let found = host::audit(lent.part());
+            number(reference::audit(archive), found)?;
+            lent.check("archive", archive)
+        }
+        Call::Show { archive, number } => {
+            let shown = reference::show(archive, *number);
+            let expected = if shown.is_empty() {
+                archive.len() as u64
+            } else {
+                (shown.as_ptr() as usize - archive.as_ptr() as usize) as u64
+            };
+            let mut lent = Lent::new(archive, index);
+            let found = host::show(lent.part(), *number);
+            if expected != found {
+                return Err(format!("place: reference {expected}, library {found}"));
+            }
+            lent.check("archive", archive)
+        }
+    }
+}
+
+fn describe(call: &Call) -> String {
+    match call {
+        Call::Settle { archive, p, k, list, result } => format!(
+            "settle p {p} k {k}\nlist ({} bytes):\n{}\nresult ({} bytes):\n{}\narchive ({} bytes):\n{}",
+            list.len(),
+            hex(list),
+            result.len(),
+            hex(result),
+            archive.len(),
+            hex(archive)
+        ),
+        Call::Fresh { archive } => format!("fresh\narchive ({} bytes):\n{}", archive.len(), hex(archive)),
+        Call::Append { archive, owner, record } => format!(
+            "append owner {owner}\nrecord ({} bytes):\n{}\narchive ({} bytes):\n{}",
+            record.len(),
+            hex(record),
+            archive.len(),
+            hex(archive)
+        ),
+        Call::Audit { archive } => format!("audit\narchive ({} bytes):\n{}", archive.len(), hex(archive)),
+        Call::Show { archive, number } => {
+            format!("show {number}\narchive ({} bytes):\n{}", archive.len(), hex(archive))
+        }
+    }
+}
+
+fn main() -> ExitCode {
+    let arguments: Vec<u64> =
+        env::args().skip(1).map(|word| word.parse().expect("seed, count and first index are numbers")).collect();
+    let (seed, count, first) = match arguments[..] {
+        [seed, count] => (seed, count, 0),
+        [seed, count, first] => (seed, count, first),
+        _ => {
+            eprintln!("usage: compare SEED COUNT [FIRST]");
+            return ExitCode::from(2);
+        }
+    };
+    let mut calls = [("settle", 0u64), ("fresh", 0), ("append", 0), ("show", 0), ("audit", 0)];
+    for index in first..first + count {
+        let call = generate::call(seed, index).call;
+        if let Err(difference) = compare(&call, index) {
+            println!("DIFFERENCE in call {index} of seed {seed}: {difference}");
+            println!("again alone: compare {seed} 1 {index}");
+            println!("{}", describe(&call));
+            return ExitCode::FAILURE;
+        }
+        let kind = match call {
+            Call::Settle { .. } => 0,
+            Call::Fresh { .. } => 1,
+            Call::Append { .. } => 2,
+            Call::Show { .. } => 3,
+            Call::Audit { .. } => 4,
+        };
+        calls[kind].1 += 1;
+    }
+    println!("No difference in {count} calls of seed {seed}, from call {first} on.");
+    for (name, times) in calls {
+        println!("{name}: {times}");
+    }
+    ExitCode::SUCCESS
+}

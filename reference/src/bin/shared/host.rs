@@ -1,0 +1,62 @@
+//! The linked library's C interface, called on slices.
+
+mod c {
+    extern "C" {
+        pub fn settle(
+            archive: *const u8,
+            archive_length: usize,
+            p: u64,
+            k: u64,
+            list: *mut u8,
+            list_length: usize,
+            result: *mut u8,
+            result_length: usize,
+        ) -> u32;
+        pub fn sandegmur_fresh(archive: *mut u8, archive_length: usize) -> u32;
+        pub fn sandegmur_append(
+            archive: *mut u8,
+            archive_length: usize,
+            owner: u64,
+            record: *const u8,
+            record_length: usize,
+        ) -> u32;
+        pub fn sandegmur_audit(archive: *const u8, archive_length: usize) -> u32;
+        pub fn sandegmur_show(archive: *const u8, archive_length: usize, number: u64) -> u64;
+    }
+}
+
+// Safety, of all five: pointer and length of every part come from one live slice, and the parts don't overlap.
+
+pub fn settle(archive: &[u8], p: u64, k: u64, list: &mut [u8], result: &mut [u8]) -> u32 {
+    unsafe {
+        c::settle(
+            archive.as_ptr(),
+            archive.len(),
+            p,
+            k,
+            list.as_mut_ptr(),
+            list.len(),
+            result.as_mut_ptr(),
+            result.len(),
+        )
+    }
+}
+
+#[allow(dead_code)]
+pub fn fresh(archive: &mut [u8]) -> u32 {
+    unsafe { c::sandegmur_fresh(archive.as_mut_ptr(), archive.len()) }
+}
+
+pub fn append(archive: &mut [u8], owner: u64, record: &[u8]) -> u32 {
+    unsafe { c::sandegmur_append(archive.as_mut_ptr(), archive.len(), owner, record.as_ptr(), record.len()) }
+}
+
+pub fn audit(archive: &[u8]) -> u32 {
+    unsafe { c::sandegmur_audit(archive.as_ptr(), archive.len()) }
+}
+
+/// Place of the part in the archive; the archive's length for the empty part.
+#[allow(dead_code)]
+pub fn show(archive: &[u8], number: u64) -> u64 {
+    unsafe { c::sandegmur_show(archive.as_ptr(), archive.len(), number) }
+}

@@ -1,0 +1,250 @@
+//! Runs generated calls on the reference alone and counts what they reach.
+//!
+//! Arguments: seed (1), count of calls (200000). Inputs for the program are a twentieth of that on top.
+//! Exit status 1 if a refusal number, a pairing or a slip was never reached, or a call made with one fault got
+//! another number.
+
+use reference::archive::{field, place, record, used, FIRST, MEASURE, PLANT, SECOND};
+use reference::generate::{self, Call};
+use reference::settle::Pairing;
+use reference::slips::{self, Of, Slip, SLIPS};
+use std::collections::BTreeMap;
+use std::env;
+use std::process::ExitCode;
+
+#[derive(Default)]
+struct Tally {
+    numbers: BTreeMap<(&'static str, u32), u64>,
+    settled: BTreeMap<(Pairing, u8, u8), u64>,
+    sizes: BTreeMap<&'static str, u64>,
+    slips: Vec<u64>,
+    unexpected: u64,
+    endless: u64,
+}
+
+impl Tally {
+    fn number(&mut self, call: &'static str, number: u32) {
+        *self.numbers.entry((call, number)).or_default() += 1;
+    }
+
+    fn size(&mut self, what: &'static str, reached: bool) {
+        *self.sizes.entry(what).or_default() += u64::from(reached);
+    }
+
+    /// Counts every slip of a call that gives another outcome than the right reading.
+    fn slips<T: PartialEq>(&mut self, of: Of, right: T, wrong: impl Fn(Slip) -> T) {
+        if wrong(Slip::None) != right {
+            self.unexpected += 1;
+        }
+        for (at, &(slip, own, _, _)) in SLIPS.iter().enumerate() {
+            if own == of && wrong(slip) != right {
+                self.slips[at] += 1;
+            }
+        }
+    }
+}
+
+/// Technology, variant, direction and execution of a measure that settles.
+fn side(archive: &[u8], p: u64, k: u64) -> Option<(Pairing, u8, u8)> {
+    let used = used(archive).ok()?;
+    let plant = place(archive, used, 0, FIRST, PLANT, p, 4).ok()?;
+    let measure = place(archive, used, plant, SECOND, MEASURE, k, 5).ok()?;
+    let (plant, measure) = (record(archive, plant), record(archive, measure));
+    Some((Pairing::of(plant[1], plant[2])?, measure[1], measure[2]))
+}
+
+fn one_call(tally: &mut Tally, seed: u64, index: u64) {
+    let case = generate::call(seed, index);
+    let number = match case.call {
+        Call::Settle { archive, p, k, list, result } => {
+            let (mut later, mut lent) = (list.clone(), result.clone());
+            let number = reference::host_settle(&archive, p, k, &mut later, &mut lent);
+            tally.number("settle", number);
+            if number == 0 {
+                if let Some(side) = side(&archive, p, k) {
+                    *tally.settled.entry(side).or_default() += 1;
+                }
+                let count = u64::from_le_bytes(lent[0..8].try_into().unwrap()) as usize;
+                let links = u64::from_le_bytes(lent[16..24].try_into().unwrap());
+                let total = i64::from_le_bytes(lent[8..16].try_into().unwrap());
+                tally.size("settled measures of 2,976 quarters", count == 2_976);
+                tally.size("settled with a list as long as the quarters", list.len() / 8 == count);
+                tally.size("settled with a longer list", list.len() / 8 > count);
+                tally.size("settled with a ragged list", list.len() % 8 != 0);
+                tally.size("settled with amounts that aren't zero", total != 0);
+                tally.size("settled over more than 100 links", links > 100);
+                tally.size("settled total beyond 10^15 Wh", total.unsigned_abs() > 1_000_000_000_000_000);
+            }
+            tally.size("places beyond 32 bits", p >> 32 != 0 || k >> 32 != 0);
+            tally.size("result parts of 0 bytes", result.is_empty());
+            tally.size("result parts of 23 bytes", result.len() == 23);
+            tally.size("result parts of 25 bytes", result.len() == 25);
+            tally.size("settle on 65,535 records", archive.len() == 65_535 * 32);
+            if archive.len() >= 32 && used(&archive).is_ok() && number == 8 {
+                tally.size("refused with 8 in an archive of over 2,976 records", archive.len() / 32 > 2_976);
+            }
+            let right = (number, later, lent);
+            tally.slips(Of::Settle, right, |slip| {
+                let (mut later, mut lent) = (list.clone(), result.clone());
+                let number = slips::host_settle(slip, &archive, p, k, &mut later, &mut lent);
+                (number, later, lent)
+            });
+            let mut circle = (list, result);
+            let owner = slips::host_settle(Slip::OwnerNumber, &archive, p, k, &mut circle.0, &mut circle.1);
+            tally.endless += u64::from(owner == slips::ENDLESS);
+            Some(number)
+        }
+        Call::Append { archive, owner, record } => {
+            let mut later = archive.clone();
+            let number = reference::append(&mut later, owner, &record);
+            tally.number("append", number);
+            tally.size("owners beyond 32 bits", owner >> 32 != 0);
+            tally.slips(Of::Append, (number, later), |slip| {
+                let mut later = archive.clone();
+                (slips::append(slip, &mut later, owner, &record), later)
+            });
+            Some(number)
+        }
+        Call::Audit { archive } => {
+            let number = reference::audit(&archive);
+            tally.number("audit", number);
+            tally.size("sound archives of more than one record", number == 0 && field(&archive, 4) > 1);
+            tally.slips(Of::Audit, number, |slip| slips::audit(slip, &archive));
+            Some(number)
+        }
+        Call::Show { archive, number } => {
+            let shown = reference::show(&archive, number);
+            let place = if shown.is_empty() { archive.len() as u64 } else { 32 * number };
+            let how = match (shown.is_empty(), used(&archive).is_ok()) {
+                (false, _) => "shown records",
+                (true, false) => "empty part on 1",
+                (true, true) => "empty part for a number of U or more",
+            };
+            tally.size(how, true);
+            tally.slips(Of::Show, place, |slip| slips::show_place(slip, &archive, number));
+            None
+        }
+        Call::Fresh { archive } => {
+            let mut later = archive.clone();
+            let number = reference::fresh(&mut later);
+            tally.number("fresh", number);
+            tally.slips(Of::Fresh, (number, later), |slip| {
+                let mut later = archive.clone();
+                (slips::fresh(slip, &mut later), later)
+            });
+            Some(number)
+        }
+    };
+    if case.expected.is_some() && case.expected != number {
+        tally.unexpected += 1;
+        println!("call {index}: made for {:?}, got {number:?}", case.expected);
+    }
+}
+
+fn one_input(tally: &mut Tally, seed: u64, index: u64) {
+    let input = generate::input(seed, index);
+    let mut out = Vec::new();
+    reference::program(&input, &mut out).expect("a vector takes every line");
+    tally.size("inputs that print nothing", out.is_empty());
+    tally.size("inputs longer than 65,536 bytes", input.len() > 65_536);
+    tally.size("inputs of 65,536 bytes", input.len() == 65_536);
+    tally.size(
+        "inputs with more lines than records",
+        out.iter().filter(|&&byte| byte == b'\n').count() > input.len() / 32,
+    );
+    for line in String::from_utf8_lossy(&out).lines() {
+        let words: Vec<&str> = line.split(' ').collect();
+        match words[0] {
+            "M" => tally.number("program", 0),
+            "E" => tally.number("program", words[3].parse().unwrap_or(u32::MAX)),
+            _ => {}
+        }
+    }
+    tally.slips(Of::Program, out, |slip| slips::program(slip, &input));
+}
+
+fn main() -> ExitCode {
+    let mut arguments = env::args().skip(1).map(|word| word.parse::<u64>().expect("seed and count are numbers"));
+    let seed = arguments.next().unwrap_or(1);
+    let count = arguments.next().unwrap_or(200_000);
+    let mut tally = Tally { slips: vec![0; SLIPS.len()], ..Tally::default() };
+    for index in 0..count {
+        one_call(&mut tally, seed, index);
+    }
+    for index in 0..count / 20 {
+        one_input(&mut tally, seed, index);
+    }
+
+    let mut missed = Vec::new();
+    println!("Seed {seed}, {count} calls and {} inputs for the program.", count / 20);
+    let wanted: [(&str, &[u32]); 5] = [
+        ("settle", &[0, 1, 2, 3, 4, 5, 6, 7, 8, 9, 10, 11, 12, 13]),
+        ("append", &[0, 1, 2, 3, 14, 15, 16]),
+        ("audit", &[0, 1, 2, 3, 17]),
+        ("fresh", &[0, 1]),
+        ("program", &[0, 1, 2, 3, 6, 7, 8, 9, 10, 11, 12]),
+    ];
+    println!("\nNumbers (program: M lines as 0, E lines by number)");
+    for (call, numbers) in wanted {
+        print!("  {call}:");
+        for &number in numbers {
+            let times = tally.numbers.get(&(call, number)).copied().unwrap_or(0);
+            print!(" {number}={times}");
+            if times == 0 {
+                missed.push(format!("{call} never gave {number}"));
+            }
+        }
+        println!();
+    }
+    for (call, number) in tally.numbers.keys() {
+        if !wanted.iter().any(|(own, numbers)| own == call && numbers.contains(number)) {
+            missed.push(format!("{call} gave {number}"));
+        }
+    }
+
+    println!("\nSettled, by pairing and direction: executions 1, 2, 3");
+    use Pairing::*;
+    for pairing in [WindSpitz, WindPauschal, SolarSpitz, SolarPauschal, OtherSpitz, OtherPauschal] {
+        for (direction, name) in [(2, "negative"), (1, "positive")] {
+            if direction == 1 && !matches!(pairing, OtherSpitz | OtherPauschal) {
+                continue;
+            }
+            let times: Vec<u64> = (1..=3)
+                .map(|execution| tally.settled.get(&(pairing, direction, execution)).copied().unwrap_or(0))
+                .collect();
+            println!("  {pairing:?} {name}: {times:?}");
+            if times.contains(&0) {
+                missed.push(format!("{pairing:?} {name} never settled in some execution"));
+            }
+        }
+    }
+
+    println!("\nOther situations");
+    for (what, times) in &tally.sizes {
+        println!("  {times:>7}  {what}");
+        if *times == 0 && count >= 100_000 {
+            missed.push(format!("never: {what}"));
+        }
+    }
+
+    println!("\nCalls in which a wrong reading would show (by decision; ! as marked there)");
+    for (&(slip, of, point, what), &times) in SLIPS.iter().zip(&tally.slips) {
+        println!("  {times:>7}  {point:<13} {of:?}: {what}");
+        if times == 0 {
+            missed.push(format!("slip never seen: {slip:?}"));
+        }
+    }
+    println!("  {:>7}  6! Settle: of these, walks that would never end", tally.endless);
+
+    if tally.unexpected > 0 {
+        missed.push(format!("{} calls with another number than they were made for", tally.unexpected));
+    }
+    for line in &missed {
+        println!("MISSED: {line}");
+    }
+    if missed.is_empty() {
+        ExitCode::SUCCESS
+    } else {
+        ExitCode::FAILURE
+    }
+}

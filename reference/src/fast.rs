@@ -1,0 +1,700 @@
+//! The same calls written for speed, as a yardstick. No heap, one walk over the quarters, 64-bit carry.
+//!
+//! Short measures are booked with a small store and a walk along the curve's points; longer ones go on with a table
+//! of 1,001 powers and a store for 2,976 amounts. Nothing goes to the list before the last test.
+
+use crate::settle::Answer;
+
+type Record = [u8; 32];
+
+const MOST_QUARTERS: usize = 2_976;
+/// Quarters booked before table and large store are made.
+const SMALL: usize = 16;
+/// Curves with more points than this get the table from the start.
+const SMALL_CURVE: usize = 24;
+const LIMIT: i32 = 1_000_000_000;
+
+#[inline(always)]
+fn int(record: &Record, at: usize) -> i32 {
+    i32::from_le_bytes([record[at], record[at + 1], record[at + 2], record[at + 3]])
+}
+
+#[inline(always)]
+fn link(record: &Record, at: usize) -> u32 {
+    int(record, at) as u32
+}
+
+/// The used records, or refusal 1. With only these in sight, "below U" is the bounds check.
+#[inline(always)]
+fn used_records(archive: &[u8]) -> Result<&[Record], u32> {
+    let (records, rest) = archive.as_chunks::<32>();
+    if !rest.is_empty() || records.is_empty() || records.len() > 65_535 || records[0][..4] != *b"AARB" {
+        return Err(1);
+    }
+    let used = link(&records[0], 4) as usize;
+    if used == 0 {
+        return Err(1);
+    }
+    records.get(..used).ok_or(1)
+}
+
+/// 2, then 3, at a link that is not zero.
+#[inline(always)]
+fn follow(records: &[Record], holder: u32, to: u32, kind: u8) -> Result<&Record, u32> {
+    if to <= holder {
+        return Err(2);
+    }
+    match records.get(to as usize) {
+        None => Err(2),
+        Some(record) if record[0] != kind => Err(3),
+        Some(record) => Ok(record),
+    }
+}
+
+#[inline(always)]
+fn place(records: &[Record], owner: u32, first: u32, kind: u8, place: u64, missing: u32) -> Result<u32, u32> {
+    let (mut holder, mut to) = (owner, first);
+    let mut left = place;
+    if left == 0 {
+        return Err(missing);
+    }
+    loop {
+        if to == 0 {
+            return Err(missing);
+        }
+        let record = follow(records, holder, to, kind)?;
+        left -= 1;
+        if left == 0 {
+            return Ok(to);
+        }
+        holder = to;
+        to = link(record, 4);
+    }
+}
+
+#[inline(always)]
+fn power_ok(value: i32) -> bool {
+    (-LIMIT..=LIMIT).contains(&value)
+}
+
+#[inline(always)]
+fn weather_ok(value: i32, most: u32) -> bool {
+    value as u32 <= most
+}
+
+/// A tested curve, still on its chain.
+#[derive(Clone, Copy)]
+struct Curve<'a> {
+    records: &'a [Record],
+    first: u32,
+    points: u32,
+}
+
+impl<'a> Curve<'a> {
+    fn tested(records: &'a [Record], plant: u32, first: u32) -> Result<Curve<'a>, u32> {
+        let (mut holder, mut to) = (plant, first);
+        let (mut points, mut before) = (0, -1);
+        let (mut wide, mut falling) = (false, false);
+        while to != 0 {
+            let point = follow(records, holder, to, 2)?;
+            let (speed, power) = (int(point, 8), int(point, 12));
+            wide |= !weather_ok(speed, 1_000) | !weather_ok(power, LIMIT as u32);
+            falling |= speed <= before;
+            before = speed;
+            points += 1;
+            holder = to;
+            to = link(point, 4);
+        }
+        if wide {
+            return Err(9);
+        }
+        if points < 2 || falling {
+            return Err(10);
+        }
+        Ok(Curve { records, first, points })
+    }
+
+    /// Power at a speed by a walk along the points.
+    #[inline]
+    fn power(&self, speed: i32) -> i64 {
+        let mut point = &self.records[self.first as usize];
+        let mut low = int(point, 8);
+        if speed < low {
+            return 0;
+        }
+        loop {
+            let power = int(point, 12) as i64;
+            if speed == low {
+                return power;
+            }
+            let next = link(point, 4);
+            if next == 0 {
+                return 0;
+            }
+            point = &self.records[next as usize];
+            let high = int(point, 8);
+            if speed < high {
+                let top = int(point, 12) as i64;
+                let weighed = power * (high - speed) as i64 + top * (speed - low) as i64;
+                return (weighed as u64 / (high - low) as u64) as i64;
+            }
+            low = high;
+        }
+    }
+
+    /// All 1,001 powers, by steps along each line.
+    fn table(&self) -> [i32; 1_001] {
+        let mut table = [0; 1_001];
+        let mut point = &self.records[self.first as usize];
+        loop {
+            let (low, mut power) = (int(point, 8), int(point, 12));
+            table[low as usize] = power;
+            let next = link(point, 4);
+            if next == 0 {
+                return table;
+            }
+            point = &self.records[next as usize];
+            let (high, top) = (int(point, 8), int(point, 12));
+            let width = high - low;
+            let (step, rest) = ((top - power).div_euclid(width), (top - power).rem_euclid(width));
+            let mut over = 0;
+            for cell in &mut table[low as usize + 1..high as usize] {
+                power += step;
+                over += rest;
+                if over >= width {
+                    over -= width;
+                    power += 1;
+                }
+                *cell = power;
+            }
+        }
+    }
+}
+
+/// Where the walk over the quarters stands.
+struct Walk {
+    holder: u32,
+    to: u32,
+    count: usize,
+    remainder: u64,
+    total: i64,
+    wide: bool,
+}
+
+/// Division by one denominator for a whole measure.
+trait Divide: Copy {
+    fn denominator(self) -> u64;
+    fn quotient(self, numerator: u64) -> u64;
+}
+
+/// A denominator known when compiled.
+#[derive(Clone, Copy)]
+struct Fixed<const D: u64>;
+
+impl<const D: u64> Divide for Fixed<D> {
+    #[inline(always)]
+    fn denominator(self) -> u64 {
+        D
+    }
+    #[inline(always)]
+    fn quotient(self, numerator: u64) -> u64 {
+        numerator / D
+    }
+}
+
+/// A denominator with its reciprocal. For numerators below 2^63 the estimate is the quotient or one less.
+#[derive(Clone, Copy)]
+struct Reciprocal {
+    denominator: u64,
+    inverse: u64,
+}
+
+impl Reciprocal {
+    #[inline(always)]
+    fn new(denominator: u64) -> Reciprocal {
+        Reciprocal { denominator, inverse: u64::MAX / denominator }
+    }
+}
+
+impl Divide for Reciprocal {
+    #[inline(always)]
+    fn denominator(self) -> u64 {
+        self.denominator
+    }
+    #[inline(always)]
+    fn quotient(self, numerator: u64) -> u64 {
+        let estimate = ((u128::from(numerator) * u128::from(self.inverse)) >> 64) as u64;
+        estimate + u64::from(numerator - estimate * self.denominator >= self.denominator)
+    }
+}
+
+/// Walks and books until the store is full or the chain ends. `magnitude` gives the numerator, or none if a needed
+/// field is out of range. Quotients don't wait for the carry: only remainders do.
+#[inline(always)]
+fn book(
+    records: &[Record],
+    walk: &mut Walk,
+    store: &mut [i64],
+    sign: i64,
+    divide: impl Divide,
+    magnitude: impl Fn(&Record) -> Option<i64>,
+) -> Result<(), u32> {
+    let (mut holder, mut to, mut count) = (walk.holder, walk.to, walk.count);
+    let (mut remainder, mut total) = (walk.remainder, walk.total);
+    while to != 0 && count < store.len() {
+        let quarter = follow(records, holder, to, 5)?;
+        holder = to;
+        to = link(quarter, 4);
+        let Some(numerator) = magnitude(quarter) else {
+            walk.wide = true;
+            return rest(records, walk, holder, to, count + 1);
+        };
+        let numerator = numerator.max(0) as u64;
+        let quotient = divide.quotient(numerator);
+        remainder += numerator - quotient * divide.denominator();
+        let carried = remainder >= divide.denominator();
+        remainder -= if carried { divide.denominator() } else { 0 };
+        let amount = sign * (quotient + u64::from(carried)) as i64;
+        total += amount;
+        store[count] = amount;
+        count += 1;
+    }
+    *walk = Walk { holder, to, count, remainder, total, wide: false };
+    Ok(())
+}
+
+/// Only walks: nothing is booked behind a field out of range or behind 2,976 quarters.
+#[cold]
+#[inline(never)]
+fn rest(records: &[Record], walk: &mut Walk, mut holder: u32, mut to: u32, mut count: usize) -> Result<(), u32> {
+    while to != 0 {
+        let quarter = follow(records, holder, to, 5)?;
+        count += 1;
+        holder = to;
+        to = link(quarter, 4);
+    }
+    walk.count = count;
+    walk.to = 0;
+    Ok(())
+}
+
+/// 8 and 9 of the quarters, then 13 and the writing.
+#[inline(always)]
+fn finish(walk: &Walk, store: &[i64], links: u64, write: impl FnOnce(&[i64]) -> bool) -> Answer {
+    if walk.count == 0 || walk.count > MOST_QUARTERS {
+        return Answer::refused(8);
+    }
+    if walk.wide {
+        return Answer::refused(9);
+    }
+    if !write(&store[..walk.count]) {
+        return Answer::refused(13);
+    }
+    Answer { number: 0, count: walk.count as u64, total: walk.total, links: links + walk.count as u64 }
+}
+
+/// The quarters of one measure: a small store first, the large one only behind it. `late` is the same rule as
+/// `early`, made for many quarters.
+#[inline(always)]
+#[allow(clippy::too_many_arguments)]
+fn quarters<L: Fn(&Record) -> Option<i64>>(
+    records: &[Record],
+    measure: u32,
+    sign: i64,
+    links: u64,
+    divide: impl Divide,
+    early: Option<impl Fn(&Record) -> Option<i64>>,
+    late: impl FnOnce() -> L,
+    write: impl FnOnce(&[i64]) -> bool,
+) -> Answer {
+    let mut walk = Walk {
+        holder: measure,
+        to: link(&records[measure as usize], 12),
+        count: 0,
+        remainder: 0,
+        total: 0,
+        wide: false,
+    };
+    let mut small = [0; SMALL];
+    if let Some(early) = early {
+        if let Err(number) = book(records, &mut walk, &mut small, sign, divide, early) {
+            return Answer::refused(number);
+        }
+        if walk.to == 0 {
+            return finish(&walk, &small, links, write);
+        }
+    }
+    many(records, walk, small, sign, links, divide, late, write)
+}
+
+#[inline(never)]
+#[allow(clippy::too_many_arguments)]
+fn many<L: Fn(&Record) -> Option<i64>>(
+    records: &[Record],
+    mut walk: Walk,
+    small: [i64; SMALL],
+    sign: i64,
+    links: u64,
+    divide: impl Divide,
+    late: impl FnOnce() -> L,
+    write: impl FnOnce(&[i64]) -> bool,
+) -> Answer {
+    let mut large = [0; MOST_QUARTERS];
+    large[..SMALL].copy_from_slice(&small);
+    let mut walked = book(records, &mut walk, &mut large, sign, divide, late());
+    if walked.is_ok() && walk.to != 0 {
+        let (holder, to, count) = (walk.holder, walk.to, walk.count);
+        walked = rest(records, &mut walk, holder, to, count);
+    }
+    match walked {
+        Err(number) => Answer::refused(number),
+        Ok(()) => finish(&walk, &large, links, write),
+    }
+}
+
+/// Limitation value L with its range tests.
+#[inline(always)]
+fn limitation(quarter: &Record, requested: bool, positive: bool) -> Option<i64> {
+    let measured = int(quarter, 8);
+    if !power_ok(measured) {
+        return None;
+    }
+    if !requested {
+        return Some(measured as i64);
+    }
+    let limit = int(quarter, 12);
+    if !power_ok(limit) {
+        return None;
+    }
+    Some(if positive { measured.min(limit) } else { measured.max(limit) } as i64)
+}
+
+fn factor(month: u8, quarter: u8) -> i64 {
+    const fn row(summer: bool) -> [u16; 96] {
+        let mut row = [0; 96];
+        let mut at = 0;
+        while at < 96 {
+            row[at] = match (summer, at) {
+                (true, 24..=35 | 60..=75) => 2_456,
+                (true, 36..=59) => 6_189,
+                (false, 36..=39 | 56..=66) => 2_796,
+                (false, 40..=55) => 5_030,
+                _ => 0,
+            };
+            at += 1;
+        }
+        row
+    }
+    static SUMMER: [u16; 96] = row(true);
+    static WINTER: [u16; 96] = row(false);
+    let row = if (3..=10).contains(&month) { &SUMMER } else { &WINTER };
+    i64::from(row[quarter as usize])
+}
+
+/// What the before-quarters give.
+struct Before {
+    a: i64,
+    b: i64,
+    count: u64,
+}
+
+/// One walk over the before-quarters. `take` gets the marked ones and says whether it needs more of them; it answers
+/// none for a field out of range.
+#[inline(always)]
+fn before(
+    records: &[Record],
+    measure: u32,
+    needed: u32,
+    mut take: impl FnMut(&Record) -> Option<(bool, i64, i64)>,
+) -> Result<(Before, u32), u32> {
+    let (mut holder, mut to) = (measure, link(&records[measure as usize], 8));
+    let mut found = Before { a: 0, b: 0, count: 0 };
+    let mut usable = 0;
+    let mut wide = false;
+    while to != 0 {
+        let one = follow(records, holder, to, 4)?;
+        holder = to;
+        to = link(one, 4);
+        found.count += 1;
+        if one[1] == 1 {
+            if usable < needed && !wide {
+                match take(one) {
+                    None => wide = true,
+                    Some((false, _, _)) => {}
+                    Some((true, a, b)) => {
+                        usable += 1;
+                        found.a += a;
+                        found.b += b;
+                    }
+                }
+            }
+        } else if one[1] > 1 {
+            wide = true;
+        }
+    }
+    if found.count > 96 {
+        return Err(8);
+    }
+    if wide {
+        return Err(9);
+    }
+    Ok((found, usable))
+}
+
+#[inline(always)]
+fn settle_with(archive: &[u8], p: u64, k: u64, write: impl FnOnce(&[i64]) -> bool) -> Answer {
+    match settled(archive, p, k, write) {
+        Ok(answer) => answer,
+        Err(number) => Answer::refused(number),
+    }
+}
+
+#[inline(always)]
+fn settled(archive: &[u8], p: u64, k: u64, write: impl FnOnce(&[i64]) -> bool) -> Result<Answer, u32> {
+    let records = used_records(archive)?;
+    let plant_number = place(records, 0, link(&records[0], 8), 1, p, 4)?;
+    let plant = &records[plant_number as usize];
+    let measure_number = place(records, plant_number, link(plant, 12), 3, k, 5)?;
+    let measure = &records[measure_number as usize];
+
+    let (technology, variant, nominal) = (plant[1], plant[2], int(plant, 16));
+    if !(1..=3).contains(&technology) || !(1..=2).contains(&variant) || !(100_000..=LIMIT).contains(&nominal) {
+        return Err(6);
+    }
+    let (direction, execution) = (measure[1], measure[2]);
+    if !(1..=2).contains(&direction) || !(1..=3).contains(&execution) || (direction == 1 && technology != 3) {
+        return Err(7);
+    }
+    let positive = direction == 1;
+    let requested = execution == 1;
+    let mut links = p + k;
+    let nominal = nominal as i64;
+
+    match (technology, variant) {
+        (1, 1) => {
+            let curve = Curve::tested(records, plant_number, link(plant, 8))?;
+            let (found, usable) = before(records, measure_number, 4, |one| {
+                let measured = int(one, 8);
+                if !power_ok(measured) {
+                    return None;
+                }
+                if 10 * measured as i64 >= nominal {
+                    let speed = int(one, 16);
+                    return weather_ok(speed, 1_000).then(|| (true, measured as i64, curve.power(speed)));
+                }
+                Some((false, 0, 0))
+            })?;
+            if usable < 4 {
+                return Err(11);
+            }
+            let Before { a, b, count } = found;
+            if b == 0 {
+                return Err(12);
+            }
+            links += u64::from(curve.points) + count;
+            let cap = nominal * b;
+            let by_walk = move |quarter: &Record| {
+                let l = limitation(quarter, requested, false)?;
+                let speed = int(quarter, 16);
+                weather_ok(speed, 1_000).then(|| (a * curve.power(speed)).min(cap) - l * b)
+            };
+            let by_table = move || {
+                let table = curve.table();
+                move |quarter: &Record| {
+                    let l = limitation(quarter, requested, false)?;
+                    let t = *table.get(int(quarter, 16) as u32 as usize)? as i64;
+                    Some((a * t).min(cap) - l * b)
+                }
+            };
+            let early = (curve.points as usize <= SMALL_CURVE).then_some(by_walk);
+            let divide = Reciprocal::new(4 * b as u64);
+            Ok(quarters(records, measure_number, 1, links, divide, early, by_table, write))
+        }
+        (2, 1) => {
+            let (found, usable) = before(records, measure_number, u32::MAX, |one| {
+                let (measured, weather) = (int(one, 8), int(one, 16));
+                (power_ok(measured) && weather_ok(weather, 2_000)).then_some((true, measured as i64, weather as i64))
+            })?;
+            if usable == 0 {
+                return Err(11);
+            }
+            let Before { a, b, count } = found;
+            if b == 0 {
+                return Err(12);
+            }
+            links += count;
+            let rule = move |quarter: &Record| {
+                let l = limitation(quarter, requested, false)?;
+                let weather = int(quarter, 16);
+                weather_ok(weather, 2_000).then(|| a * weather as i64 - l * b)
+            };
+            let divide = Reciprocal::new(4 * b as u64);
+            Ok(quarters(records, measure_number, 1, links, divide, Some(rule), || rule, write))
+        }
+        (2, _) => {
+            let rule = move |quarter: &Record| {
+                let l = limitation(quarter, requested, false)?;
+                if !(1..=12).contains(&quarter[1]) || quarter[2] > 95 {
+                    return None;
+                }
+                Some(nominal * factor(quarter[1], quarter[2]) - l * 10_000)
+            };
+            Ok(quarters(records, measure_number, 1, links, Fixed::<40_000>, Some(rule), || rule, write))
+        }
+        (3, 1) => {
+            let rule = move |quarter: &Record| {
+                let l = limitation(quarter, requested, positive)?;
+                let planned = int(quarter, 20);
+                let difference = planned as i64 - l;
+                power_ok(planned).then_some(if positive { -difference } else { difference })
+            };
+            let sign = if positive { -1 } else { 1 };
+            Ok(quarters(records, measure_number, sign, links, Fixed::<4>, Some(rule), || rule, write))
+        }
+        _ => {
+            let (found, usable) = before(records, measure_number, 1, |one| {
+                let measured = int(one, 8);
+                power_ok(measured).then_some((true, measured as i64, 0))
+            })?;
+            if usable == 0 {
+                return Err(11);
+            }
+            links += found.count;
+            let carried = found.a;
+            let rule = move |quarter: &Record| {
+                let difference = carried - limitation(quarter, requested, positive)?;
+                Some(if positive { -difference } else { difference })
+            };
+            let sign = if positive { -1 } else { 1 };
+            Ok(quarters(records, measure_number, sign, links, Fixed::<4>, Some(rule), || rule, write))
+        }
+    }
+}
+
+/// Settle on a list of numbers.
+pub fn settle(archive: &[u8], p: u64, k: u64, list: &mut [i64]) -> Answer {
+    settle_with(archive, p, k, |amounts| match list.get_mut(..amounts.len()) {
+        Some(places) => {
+            places.copy_from_slice(amounts);
+            true
+        }
+        None => false,
+    })
+}
+
+/// Settle as the host calls it.
+pub fn host_settle(archive: &[u8], p: u64, k: u64, list: &mut [u8], result: &mut [u8]) -> u32 {
+    let lent: Option<&mut [u8; 24]> = result.try_into().ok();
+    let whole = lent.is_some();
+    let answer = settle_with(archive, p, k, |amounts| {
+        let (places, _) = list.as_chunks_mut::<8>();
+        if places.len() < amounts.len() || !whole {
+            return false;
+        }
+        for (place, amount) in places.iter_mut().zip(amounts) {
+            *place = amount.to_le_bytes();
+        }
+        true
+    });
+    if answer.number == 0 {
+        if let Some(lent) = lent {
+            lent[..8].copy_from_slice(&answer.count.to_le_bytes());
+            lent[8..16].copy_from_slice(&answer.total.to_le_bytes());
+            lent[16..].copy_from_slice(&answer.links.to_le_bytes());
+        }
+    }
+    answer.number
+}
+
+/// Append.
+pub fn append(archive: &mut [u8], owner: u64, new: &[u8]) -> u32 {
+    match append_place(archive, owner, new) {
+        Err(number) => number,
+        Ok((used, last_link)) => {
+            archive[used * 32..used * 32 + 32].copy_from_slice(new);
+            archive[last_link..last_link + 4].copy_from_slice(&(used as u32).to_le_bytes());
+            archive[4..8].copy_from_slice(&(used as u32 + 1).to_le_bytes());
+            0
+        }
+    }
+}
+
+fn append_place(archive: &[u8], owner: u64, new: &[u8]) -> Result<(usize, usize), u32> {
+    let records = used_records(archive)?;
+    let new: &Record = new.try_into().map_err(|_| 14u32)?;
+    let kind = new[0];
+    let (owner_kind, first) = match kind {
+        1 => (b'A', 8),
+        2 => (1, 8),
+        3 => (1, 12),
+        4 => (3, 8),
+        5 => (3, 12),
+        _ => return Err(14),
+    };
+    let ends = u64::from_le_bytes([new[8], new[9], new[10], new[11], new[12], new[13], new[14], new[15]]);
+    if link(new, 4) != 0 || (kind & 5 == 1 && ends != 0) {
+        return Err(14);
+    }
+    if owner >= records.len() as u64 || records[owner as usize][0] != owner_kind || (kind == 1) != (owner == 0) {
+        return Err(15);
+    }
+    let (mut holder, mut at) = (owner as u32, first);
+    let mut to = link(&records[holder as usize], at);
+    while to != 0 {
+        let record = follow(records, holder, to, kind)?;
+        holder = to;
+        at = 4;
+        to = link(record, 4);
+    }
+    if records.len() == archive.len() / 32 {
+        return Err(16);
+    }
+    Ok((records.len(), holder as usize * 32 + at))
+}
+
+/// Audit with a table of marks, one bit a record.
+pub fn audit(archive: &[u8]) -> u32 {
+    let records = match used_records(archive) {
+        Ok(records) => records,
+        Err(number) => return number,
+    };
+    let audited =
+        if records.len() <= 4_096 { audited(records, &mut [0; 64]) } else { audited(records, &mut [0; 1_024]) };
+    match audited {
+        Ok(()) => 0,
+        Err(number) => number,
+    }
+}
+
+#[inline(always)]
+fn audited(records: &[Record], marks: &mut [u64]) -> Result<(), u32> {
+    let mut named = 0;
+    let mut several = false;
+    let mut name = |holder: u32, to: u32, kind: u8| -> Result<(), u32> {
+        if to == 0 {
+            return Ok(());
+        }
+        follow(records, holder, to, kind)?;
+        let (word, bit) = (&mut marks[to as usize / 64], 1u64 << (to % 64));
+        several |= *word & bit != 0;
+        *word |= bit;
+        named += 1;
+        Ok(())
+    };
+    name(0, link(&records[0], 8), 1)?;
+    for (number, record) in records.iter().enumerate().skip(1) {
+        let (number, kind) = (number as u32, record[0]);
+        if !(1..=5).contains(&kind) {
+            return Err(3);
+        }
+        name(number, link(record, 4), kind)?;
+        if kind & 5 == 1 {
+            name(number, link(record, 8), kind + 1)?;
+            name(number, link(record, 12), kind + 2)?;
+        }
+    }
+    if several || named != records.len() - 1 {
+        return Err(17);
+    }
+    Ok(())
+}

@@ -1,0 +1,1696 @@
+//! Seeded calls on document 01's archive: valid ones, one fault, several faults, mutations and noise.
+//!
+//! Every seed and index gives one call, the same everywhere.
+
+use crate::archive::*;
+use crate::builder::*;
+use crate::rng::Rng;
+use crate::settle::{curve_power, Pairing};
+
+/// One call with its arguments.
+#[derive(Clone, Debug)]
+pub enum Call {
+    Settle { archive: Vec<u8>, p: u64, k: u64, list: Vec<u8>, result: Vec<u8> },
+    Fresh { archive: Vec<u8> },
+    Append { archive: Vec<u8>, owner: u64, record: Vec<u8> },
+    Show { archive: Vec<u8>, number: u64 },
+    Audit { archive: Vec<u8> },
+}
+
+/// A call and, where the way it was made fixes it, its refusal number.
+#[derive(Clone, Debug)]
+pub struct Case {
+    pub call: Call,
+    pub expected: Option<Refusal>,
+}
+
+/// Call number `index` of a seed.
+pub fn call(seed: u64, index: u64) -> Case {
+    let mut rng = Rng::new(seed, index);
+    match rng.below(100) {
+        0..=61 => settle_case(&mut rng),
+        62..=79 => append_case(&mut rng),
+        80..=91 => audit_case(&mut rng),
+        92..=96 => show_case(&mut rng),
+        _ => fresh_case(&mut rng),
+    }
+}
+
+// ---------------------------------------------------------------------------------------------------------------
+// Faults
+
+/// The five chains of settle.
+#[derive(Clone, Copy, Debug, PartialEq, Eq)]
+pub enum Chain {
+    Plants,
+    Measures,
+    Curve,
+    Before,
+    Quarters,
+}
+
+/// One thing wrong with a settle call; the comment gives the rows of "Refused sheets".
+#[derive(Clone, Copy, Debug, PartialEq, Eq)]
+pub enum Fault {
+    // 1
+    Length,
+    Text,
+    Used,
+    // 2 and 3
+    Link(Chain),
+    Kind(Chain),
+    // 4 and 5
+    NoPlant,
+    NoMeasure,
+    // 6
+    Technology,
+    Variant,
+    Nominal,
+    // 7
+    Direction,
+    Execution,
+    Positive,
+    // 8
+    NoQuarter,
+    ManyQuarters,
+    ManyBefore,
+    // 9
+    CurveField,
+    BeforeMark,
+    BeforeMeasured,
+    BeforeWeather,
+    QuarterField,
+    // 10
+    FewPoints,
+    NotRising,
+    // 11 and 12
+    FewUsable,
+    ZeroB,
+    // 13
+    List,
+    ResultPart,
+}
+
+use Chain::{Curve, Measures, Plants, Quarters};
+use Fault::*;
+
+#[rustfmt::skip]
+const FAULTS: &[Fault] = &[
+    Length, Text, Used, Link(Plants), Link(Measures), Link(Curve), Link(Chain::Before), Link(Quarters), Kind(Plants),
+    Kind(Measures), Kind(Curve), Kind(Chain::Before), Kind(Quarters), NoPlant, NoMeasure, Technology, Variant, Nominal,
+    Direction, Execution, Positive, NoQuarter, ManyQuarters, ManyBefore, CurveField, BeforeMark, BeforeMeasured,
+    BeforeWeather, QuarterField, FewPoints, NotRising, FewUsable, ZeroB, List, ResultPart,
+];
+
+/// Pairs of faults whose order document 01 and the decisions fix.
+#[rustfmt::skip]
+const PAIRS: &[(Fault, Fault)] = &[
+    (NoPlant, Link(Plants)), (NoPlant, Kind(Plants)), (NoMeasure, Link(Measures)), (NoMeasure, Kind(Measures)),
+    (NoMeasure, Technology), (NoMeasure, Variant), (NoMeasure, Nominal), (Technology, Direction), (Nominal, Execution),
+    (Direction, CurveField), (Execution, FewPoints), (Positive, Link(Curve)), (Technology, Link(Measures)),
+    (ZeroB, Link(Quarters)), (ZeroB, Kind(Quarters)), (FewUsable, Link(Quarters)), (FewUsable, Kind(Quarters)),
+    (CurveField, Link(Chain::Before)), (CurveField, Kind(Quarters)), (NotRising, Link(Quarters)),
+    (FewPoints, Kind(Chain::Before)), (ManyBefore, Link(Chain::Before)), (ManyBefore, Kind(Chain::Before)),
+    (ManyQuarters, Link(Quarters)), (ManyQuarters, Kind(Quarters)), (Kind(Plants), Link(Plants)),
+    (Kind(Measures), Link(Measures)), (Kind(Curve), Link(Curve)), (Kind(Chain::Before), Link(Chain::Before)),
+    (Kind(Quarters), Link(Quarters)), (CurveField, FewPoints), (CurveField, NotRising), (FewUsable, BeforeMeasured),
+    (FewUsable, BeforeWeather), (FewUsable, BeforeMark), (ZeroB, BeforeMark), (ZeroB, FewUsable), (ZeroB, BeforeMeasured),
+    (ManyBefore, BeforeMark), (ManyBefore, FewUsable), (ManyBefore, ZeroB), (ManyQuarters, QuarterField),
+    (ManyQuarters, List), (NoQuarter, List), (QuarterField, List), (QuarterField, ResultPart), (List, ResultPart),
+    (NoPlant, ResultPart), (Technology, ResultPart), (ZeroB, ResultPart), (NoQuarter, ResultPart), (NoQuarter, ZeroB),
+    (Text, NoPlant), (Used, ResultPart), (Length, List), (QuarterField, Link(Quarters)), (QuarterField, BeforeMeasured),
+    (NoPlant, NoMeasure), (NoMeasure, Kind(Plants)),
+];
+
+impl Fault {
+    /// Its row of the table.
+    pub fn number(self) -> Refusal {
+        match self {
+            Length | Text | Used => 1,
+            Link(_) => 2,
+            Kind(_) => 3,
+            NoPlant => 4,
+            NoMeasure => 5,
+            Technology | Variant | Nominal => 6,
+            Direction | Execution | Positive => 7,
+            NoQuarter | ManyQuarters | ManyBefore => 8,
+            CurveField | BeforeMark | BeforeMeasured | BeforeWeather | QuarterField => 9,
+            FewPoints | NotRising => 10,
+            FewUsable => 11,
+            ZeroB => 12,
+            List | ResultPart => 13,
+        }
+    }
+
+    /// Whether the pairing's rules can meet it.
+    fn fits(self, pairing: Pairing) -> bool {
+        match self {
+            Link(Curve) | Kind(Curve) | CurveField | FewPoints | NotRising => pairing == Pairing::WindSpitz,
+            Link(Chain::Before) | Kind(Chain::Before) | ManyBefore | BeforeMark | BeforeMeasured | FewUsable => {
+                uses_before(pairing)
+            }
+            BeforeWeather | ZeroB => matches!(pairing, Pairing::WindSpitz | Pairing::SolarSpitz),
+            Positive => !matches!(pairing, Pairing::OtherSpitz | Pairing::OtherPauschal),
+            _ => true,
+        }
+    }
+}
+
+fn uses_before(pairing: Pairing) -> bool {
+    !matches!(pairing, Pairing::SolarPauschal | Pairing::OtherSpitz)
+}
+
+// ---------------------------------------------------------------------------------------------------------------
+// Values
+
+const LIMIT: i64 = 1_000_000_000;
+
+/// Power in range, its ends often.
+fn power(rng: &mut Rng, nominal: i32) -> i32 {
+    let value = match rng.below(10) {
+        0 => rng.pick(&[-LIMIT, 1 - LIMIT, -1, 0, 1, LIMIT - 1, LIMIT]),
+        1 | 2 => rng.range(-LIMIT, LIMIT),
+        3 => rng.range(-12, 12),
+        4 => rng.range(-i64::from(nominal), 0).max(-LIMIT),
+        _ => rng.range(0, i64::from(nominal).clamp(1, LIMIT)),
+    };
+    value as i32
+}
+
+/// Power out of range.
+fn wide_power(rng: &mut Rng) -> i32 {
+    match rng.below(4) {
+        0 => rng.pick(&[1_000_000_001, -1_000_000_001]),
+        1 => rng.pick(&[i32::MIN, i32::MAX]),
+        2 => rng.range(LIMIT + 1, i64::from(i32::MAX)) as i32,
+        _ => rng.range(i64::from(i32::MIN), -LIMIT - 1) as i32,
+    }
+}
+
+/// A value from 0 to `most` moved out of that range.
+fn wide(rng: &mut Rng, most: i64) -> i32 {
+    match rng.below(4) {
+        0 => -1,
+        1 => (most + 1) as i32,
+        2 => rng.pick(&[i32::MIN, i32::MAX]),
+        _ if rng.chance(50) => rng.range(i64::from(i32::MIN), -1) as i32,
+        _ => rng.range(most + 1, i64::from(i32::MAX)) as i32,
+    }
+}
+
+/// Any four bytes.
+fn any(rng: &mut Rng) -> i32 {
+    match rng.below(4) {
+        0 => wide_power(rng),
+        1 => rng.range(-3, 2_100) as i32,
+        _ => rng.word() as i32,
+    }
+}
+
+/// A field that no rule needs: noise in a dirty sheet, else the value given.
+fn unneeded(rng: &mut Rng, dirty: bool, value: i32) -> i32 {
+    if dirty && rng.chance(70) {
+        any(rng)
+    } else {
+        value
+    }
+}
+
+fn irradiance(rng: &mut Rng) -> i32 {
+    match rng.below(5) {
+        0 => rng.pick(&[0, 1, 1_999, 2_000]),
+        1 => rng.range(0, 12) as i32,
+        _ => rng.range(0, 2_000) as i32,
+    }
+}
+
+/// A speed on, beside or off the curve.
+fn speed(rng: &mut Rng, curve: &[Point]) -> i32 {
+    let (Some(first), Some(last)) = (curve.first(), curve.last()) else {
+        return rng.range(0, 1_000) as i32;
+    };
+    let (low, high) = (i64::from(first.speed), i64::from(last.speed));
+    let value = match rng.below(10) {
+        0 | 1 => i64::from(rng.pick(curve).speed) + rng.range(-1, 1),
+        2 => low - rng.range(0, 3),
+        3 => high + rng.range(0, 3),
+        4 => rng.pick(&[0, 1, 999, 1_000]),
+        5 => rng.range(0, 1_000),
+        _ if low < high => rng.range(low, high),
+        _ => low,
+    };
+    value.clamp(0, 1_000) as i32
+}
+
+/// A place (of a plant or measure) beyond those that exist.
+fn missing_place(rng: &mut Rng, count: u64) -> u64 {
+    match rng.below(12) {
+        0..=2 => 0,
+        3 | 4 => count + 1,
+        5 => count + 2 + rng.word() % 6,
+        6 => rng.pick(&[65_534, 65_535, 65_536, 65_537]),
+        7 => 1 << 32,
+        8 | 9 => (1 << 32) + 1 + rng.word() % (count + 1),
+        10 => (rng.word() << 32) | (1 + rng.word() % (count + 1)) | (1 << 40),
+        _ => rng.pick(&[u64::MAX, u64::MAX - 1, 1 << 63, (1 << 63) + 1, u64::MAX << 32 | 1]),
+    }
+}
+
+// ---------------------------------------------------------------------------------------------------------------
+// Sheets
+
+/// Pairing and direction: the six pairings downward, other ones upward too.
+const SIDES: [(u8, u8, u8); 8] =
+    [(1, 1, 2), (1, 2, 2), (2, 1, 2), (2, 2, 2), (3, 1, 2), (3, 2, 2), (3, 1, 1), (3, 2, 1)];
+
+fn curve(rng: &mut Rng) -> Vec<Point> {
+    let count = match rng.below(200) {
+        0 => 1_001,
+        1..=3 => rng.range(31, 300),
+        4..=24 => rng.range(9, 30),
+        25..=80 => 2,
+        _ => rng.range(3, 8),
+    } as usize;
+    let mut speeds = std::collections::BTreeSet::new();
+    if rng.chance(25) && count < 100 {
+        let (start, step) = (rng.below(500), 1 + rng.below(10));
+        speeds.extend((0..count).map(|at| ((start + at * step) as i32).min(1_000)));
+    }
+    while speeds.len() < count {
+        speeds.insert(if count > 900 { speeds.len() as i32 } else { rng.range(0, 1_000) as i32 });
+    }
+    let style = rng.below(6);
+    let most = rng.pick(&[20, 2_000_000, LIMIT]);
+    let mut points: Vec<Point> = speeds
+        .into_iter()
+        .enumerate()
+        .map(|(at, speed)| {
+            let power = match style {
+                0 => at as i64 * most / count as i64,
+                1 => (count - at) as i64 * most / count as i64,
+                2 => rng.pick(&[0, 1, most]),
+                3 => i64::from(at > 0) * rng.range(0, most),
+                _ => rng.range(0, most),
+            };
+            Point { speed, power: power as i32 }
+        })
+        .collect();
+    if points.iter().all(|point| point.power == 0) {
+        let at = rng.below(count);
+        points[at].power = rng.range(1, most) as i32;
+    }
+    points
+}
+
+/// A plant without measures.
+fn make_plant(rng: &mut Rng, pairing: Pairing, side: (u8, u8, u8), dirty: bool, faults: &[Fault]) -> Plant {
+    let nominal = match rng.below(6) {
+        0 => rng.pick(&[100_000, 100_001, 100_009, 999_999_999, LIMIT as i32]),
+        1 => rng.pick(&[1_000_000, 2_000_000]),
+        2 => rng.range(100_000, LIMIT) as i32,
+        _ => rng.range(100_000, 5_000_000) as i32,
+    };
+    let mut plant = Plant { technology: side.0, variant: side.1, nominal, curve: Vec::new(), measures: Vec::new() };
+    if pairing == Pairing::WindSpitz {
+        plant.curve = curve(rng);
+        if faults.contains(&ZeroB) {
+            if rng.chance(30) {
+                plant.curve.iter_mut().for_each(|point| point.power = 0);
+            } else {
+                plant.curve[0].power = 0;
+            }
+        }
+        if faults.contains(&FewPoints) {
+            plant.curve.truncate(rng.below(2));
+        }
+        if faults.contains(&NotRising) && plant.curve.len() > 1 {
+            let at = 1 + rng.below(plant.curve.len() - 1);
+            let before = plant.curve[at - 1].speed;
+            plant.curve[at].speed = if rng.chance(60) { before } else { rng.range(0, i64::from(before)) as i32 };
+        }
+        if faults.contains(&CurveField) {
+            if plant.curve.is_empty() {
+                plant.curve.push(Point { speed: 30, power: 0 });
+            }
+            let at = rng.below(plant.curve.len());
+            if rng.chance(35) {
+                plant.curve[at].speed = wide(rng, 1_000);
+            } else {
+                plant.curve[at].power = wide(rng, LIMIT);
+            }
+        }
+    } else if rng.chance(25) {
+        // A curve that no rule needs.
+        for _ in 0..rng.below(4) {
+            plant.curve.push(Point { speed: unneeded(rng, dirty, 5), power: unneeded(rng, dirty, 0) });
+        }
+    }
+    if faults.contains(&Technology) {
+        plant.technology = rng.pick(&[0, 4, 5, 128, 255]);
+    }
+    if faults.contains(&Variant) {
+        plant.variant = rng.pick(&[0, 3, 4, 129, 255]);
+    }
+    if faults.contains(&Nominal) {
+        plant.nominal = match rng.below(4) {
+            0 => 99_999,
+            1 => 1_000_000_001,
+            2 => rng.pick(&[0, -100_000, i32::MIN, i32::MAX]),
+            _ => rng.range(i64::from(i32::MIN), 99_999) as i32,
+        };
+    }
+    plant
+}
+
+/// Sum of curve power over the first four usable before-quarters.
+fn wind_b(plant: &Plant, before: &[Before]) -> i128 {
+    let points: Vec<(i128, i128)> =
+        plant.curve.iter().map(|point| (i128::from(point.speed), i128::from(point.power))).collect();
+    let usable = before.iter().filter(|one| one.mark == 1 && 10 * i64::from(one.measured) >= i64::from(plant.nominal));
+    usable.take(4).map(|one| curve_power(&points, i128::from(one.weather))).sum()
+}
+
+fn before_wind(rng: &mut Rng, plant: &Plant, dirty: bool, faults: &[Fault], count: usize) -> Vec<Before> {
+    let few = faults.contains(&FewUsable);
+    // 0 unmarked, 1 marked and below 10 %, 2 usable.
+    let mut states: Vec<u8> = (0..count).map(|_| rng.pick(&[0, 0, 1, 1, 2, 2, 2])).collect();
+    let wanted = if few { rng.pick(&[0, 1, 2, 3, 3, 3]) } else { 4.max(rng.below(count.min(8) + 1)) };
+    let usable = |states: &[u8]| states.iter().filter(|&&state| state == 2).count();
+    while usable(&states) < wanted && !few {
+        let at = rng.below(count);
+        states[at] = 2;
+    }
+    while few && usable(&states) > wanted {
+        let at = rng.below(count);
+        states[at] = rng.pick(&[0, 1]);
+    }
+    let tenth = (i64::from(plant.nominal) + 9).div_euclid(10).clamp(-LIMIT, LIMIT);
+    let mut seen = 0;
+    let mut before = Vec::new();
+    for &state in &states {
+        let needed = seen < 4;
+        let usable = match rng.below(4) {
+            0 => tenth,
+            1 => rng.pick(&[LIMIT, LIMIT - 1]),
+            2 => rng.range(tenth, LIMIT),
+            _ => rng.range(tenth, (tenth * 12).clamp(tenth, LIMIT)),
+        } as i32;
+        let low = match rng.below(4) {
+            0 => (tenth - 1).max(-LIMIT),
+            1 => rng.pick(&[-LIMIT, 0, -1]).min(tenth),
+            _ => rng.range(-LIMIT, (tenth - 1).max(-LIMIT)),
+        } as i32;
+        let at = speed(rng, &plant.curve);
+        before.push(match state {
+            0 => Before { mark: 0, measured: unneeded(rng, dirty, usable), weather: unneeded(rng, dirty, at) },
+            1 if needed => Before { mark: 1, measured: low, weather: unneeded(rng, dirty, at) },
+            2 if needed => Before { mark: 1, measured: usable, weather: at },
+            _ => Before { mark: 1, measured: unneeded(rng, dirty, usable), weather: unneeded(rng, dirty, at) },
+        });
+        if state == 2 {
+            seen += 1;
+        }
+    }
+    let points: Vec<(i128, i128)> =
+        plant.curve.iter().map(|point| (i128::from(point.speed), i128::from(point.power))).collect();
+    if faults.contains(&ZeroB) {
+        let calm: Vec<i32> = (0..=1_000).filter(|&at| curve_power(&points, i128::from(at)) == 0).collect();
+        for (one, &state) in before.iter_mut().zip(&states) {
+            if state == 2 && !calm.is_empty() {
+                one.weather = rng.pick(&calm);
+            }
+        }
+    } else if wind_b(plant, &before) == 0 {
+        let windy = plant.curve.iter().find(|point| point.power > 0);
+        let first = states.iter().position(|&state| state == 2);
+        if let (Some(point), Some(at)) = (windy, first) {
+            before[at].weather = point.speed;
+        }
+    }
+    before
+}
+
+fn before_solar(rng: &mut Rng, plant: &Plant, dirty: bool, faults: &[Fault], count: usize) -> Vec<Before> {
+    let none = faults.contains(&FewUsable);
+    let calm = faults.contains(&ZeroB);
+    let mut before: Vec<Before> = (0..count)
+        .map(|_| {
+            let (measured, weather) = (power(rng, plant.nominal), irradiance(rng));
+            if none || rng.chance(40) {
+                Before { mark: 0, measured: unneeded(rng, dirty, measured), weather: unneeded(rng, dirty, weather) }
+            } else {
+                Before { mark: 1, measured, weather: if calm { 0 } else { weather } }
+            }
+        })
+        .collect();
+    if !none {
+        let at = rng.below(count);
+        if before.iter().all(|one| one.mark == 0) {
+            before[at] = Before { mark: 1, measured: power(rng, plant.nominal), weather: 0 };
+        }
+        if !calm && before.iter().filter(|one| one.mark == 1).all(|one| one.weather == 0) {
+            let marked = before.iter_mut().find(|one| one.mark == 1);
+            marked.into_iter().for_each(|one| one.weather = rng.pick(&[1, 7, 500, 2_000]));
+        }
+    }
+    before
+}
+
+fn before_pauschal(rng: &mut Rng, plant: &Plant, dirty: bool, faults: &[Fault], count: usize) -> Vec<Before> {
+    let none = faults.contains(&FewUsable);
+    let first = if rng.chance(50) { 0 } else { rng.below(count.max(1)) };
+    (0..count)
+        .map(|at| {
+            let measured = power(rng, plant.nominal);
+            let weather = unneeded(rng, dirty, 0);
+            if !none && at == first {
+                Before { mark: 1, measured, weather }
+            } else {
+                let mark = u8::from(!none && at > first && rng.chance(60));
+                Before { mark, measured: unneeded(rng, dirty, measured), weather }
+            }
+        })
+        .collect()
+}
+
+/// Positions of before-quarters whose measured power, or weather, is tested.
+fn tested(pairing: Pairing, plant: &Plant, before: &[Before], weather: bool) -> Vec<usize> {
+    let mut positions = Vec::new();
+    let mut usable = 0;
+    for (at, one) in before.iter().enumerate() {
+        let meets = 10 * i64::from(one.measured) >= i64::from(plant.nominal);
+        let wanted = match pairing {
+            Pairing::WindSpitz => usable < 4,
+            Pairing::SolarSpitz => true,
+            _ => usable < 1,
+        };
+        if one.mark != 1 || !wanted {
+            continue;
+        }
+        if !weather || meets || pairing == Pairing::SolarSpitz {
+            positions.push(at);
+        }
+        if meets || pairing != Pairing::WindSpitz {
+            usable += 1;
+        }
+    }
+    positions
+}
+
+fn quarter(rng: &mut Rng, plant: &Plant, pairing: Pairing, execution: u8, dirty: bool) -> Quarter {
+    let month = if rng.chance(50) { rng.pick(&[2, 3, 10, 11]) } else { rng.range(1, 12) as u8 };
+    let time = if rng.chance(60) {
+        rng.pick(&[0, 23, 24, 35, 36, 39, 40, 55, 56, 59, 60, 66, 67, 68, 75, 76, 95])
+    } else {
+        rng.range(0, 95) as u8
+    };
+    let mut made = Quarter {
+        month,
+        time,
+        measured: power(rng, plant.nominal),
+        limit: power(rng, plant.nominal),
+        weather: 0,
+        planned: power(rng, plant.nominal),
+    };
+    if pairing != Pairing::SolarPauschal && dirty && rng.chance(70) {
+        (made.month, made.time) = (rng.word() as u8, rng.word() as u8);
+    }
+    if execution != 1 {
+        made.limit = unneeded(rng, dirty, made.limit);
+    }
+    made.weather = match pairing {
+        Pairing::WindSpitz => speed(rng, &plant.curve),
+        Pairing::SolarSpitz => irradiance(rng),
+        _ => unneeded(rng, dirty, 0),
+    };
+    if pairing != Pairing::OtherSpitz {
+        made.planned = unneeded(rng, dirty, made.planned);
+    }
+    made
+}
+
+/// A needed field of a quarter moved out of its range.
+fn break_quarter(rng: &mut Rng, quarter: &mut Quarter, pairing: Pairing, execution: u8) {
+    let mut fields = vec![0];
+    if execution == 1 {
+        fields.push(1);
+    }
+    match pairing {
+        Pairing::WindSpitz => fields.push(2),
+        Pairing::SolarSpitz => fields.push(3),
+        Pairing::OtherSpitz => fields.push(4),
+        Pairing::SolarPauschal => fields.extend([5, 6]),
+        _ => {}
+    }
+    match rng.pick(&fields) {
+        0 => quarter.measured = wide_power(rng),
+        1 => quarter.limit = wide_power(rng),
+        2 => quarter.weather = wide(rng, 1_000),
+        3 => quarter.weather = wide(rng, 2_000),
+        4 => quarter.planned = wide_power(rng),
+        5 => quarter.month = rng.pick(&[0, 13, 14, 128, 255]),
+        _ => quarter.time = rng.pick(&[96, 97, 128, 255]),
+    }
+}
+
+/// How long the chains of a measure may get.
+#[derive(Clone, Copy, PartialEq, Eq)]
+enum Size {
+    Small,
+    Any,
+}
+
+fn make_measure(
+    rng: &mut Rng,
+    plant: &Plant,
+    pairing: Pairing,
+    direction: u8,
+    dirty: bool,
+    faults: &[Fault],
+    size: Size,
+) -> Measure {
+    let execution = rng.range(1, 3) as u8;
+    let mut measure = Measure { direction, execution, before: Vec::new(), quarters: Vec::new() };
+
+    let mut count = match rng.below(100) {
+        0..=4 if size == Size::Any => 96,
+        5..=7 if size == Size::Any => rng.range(60, 95),
+        8..=25 if size == Size::Any => rng.range(9, 30),
+        _ => rng.range(1, 8),
+    } as usize;
+    if pairing == Pairing::WindSpitz && !faults.contains(&FewUsable) {
+        count = count.max(4);
+    }
+    if faults.contains(&FewUsable) && rng.chance(20) {
+        count = rng.below(3);
+    }
+    if faults.contains(&ManyBefore) {
+        count = match rng.below(10) {
+            0 => rng.range(98, 130),
+            1 if size == Size::Any => rng.range(131, 900),
+            _ => 97,
+        } as usize;
+    }
+    if uses_before(pairing) {
+        measure.before = match pairing {
+            Pairing::WindSpitz => before_wind(rng, plant, dirty, faults, count),
+            Pairing::SolarSpitz => before_solar(rng, plant, dirty, faults, count),
+            _ => before_pauschal(rng, plant, dirty, faults, count),
+        };
+        if faults.contains(&BeforeMeasured) {
+            let positions = tested(pairing, plant, &measure.before, false);
+            if !positions.is_empty() {
+                let at = rng.pick(&positions);
+                measure.before[at].measured = wide_power(rng);
+            }
+        }
+        if faults.contains(&BeforeWeather) {
+            let positions = tested(pairing, plant, &measure.before, true);
+            if !positions.is_empty() {
+                let at = rng.pick(&positions);
+                measure.before[at].weather = wide(rng, if pairing == Pairing::WindSpitz { 1_000 } else { 2_000 });
+            }
+        }
+        if faults.contains(&BeforeMark) {
+            if measure.before.is_empty() {
+                measure.before.push(Before { mark: 0, measured: 0, weather: 0 });
+            }
+            let at = if rng.chance(40) { measure.before.len() - 1 } else { rng.below(measure.before.len()) };
+            measure.before[at].mark = rng.pick(&[2, 3, 129, 255]);
+        }
+    } else if rng.chance(30) {
+        // Before-quarters that no rule needs, sometimes too many.
+        let count = if rng.chance(15) && size == Size::Any { rng.pick(&[96, 97, 98]) } else { rng.below(5) };
+        for _ in 0..count {
+            let mark = if dirty { rng.word() as u8 } else { 1 };
+            measure.before.push(Before { mark, measured: unneeded(rng, dirty, 1), weather: unneeded(rng, dirty, 1) });
+        }
+    }
+
+    let mut count = match rng.below(1_000) {
+        0..=3 if size == Size::Any => 2_976,
+        4..=5 if size == Size::Any => rng.range(2_000, 2_975),
+        6..=40 if size == Size::Any => rng.range(61, 200),
+        41..=200 if size == Size::Any => rng.range(12, 60),
+        _ => rng.range(1, if size == Size::Any { 11 } else { 5 }),
+    } as usize;
+    if faults.contains(&ManyQuarters) {
+        count = match rng.below(50) {
+            0..=39 => 2_977,
+            40..=48 => rng.range(2_978, 3_300),
+            _ => rng.range(3_301, 20_000),
+        } as usize;
+    }
+    if faults.contains(&NoQuarter) {
+        count = 0;
+    }
+    measure.quarters = (0..count).map(|_| quarter(rng, plant, pairing, execution, dirty)).collect();
+    if faults.contains(&QuarterField) && count > 0 {
+        let at = if rng.chance(40) { count - 1 } else { rng.below(count) };
+        break_quarter(rng, &mut measure.quarters[at], pairing, execution);
+    }
+
+    if faults.contains(&Direction) {
+        measure.direction = rng.pick(&[0, 3, 4, 129, 255]);
+    }
+    if faults.contains(&Execution) {
+        measure.execution = rng.pick(&[0, 4, 5, 130, 255]);
+    }
+    if faults.contains(&Positive) {
+        measure.direction = 1;
+    }
+    measure
+}
+
+/// A whole plant with measures as company for the one that is settled; it may be faulty.
+fn company(rng: &mut Rng, dirty: bool) -> Plant {
+    let side = rng.pick(&SIDES);
+    let pairing = Pairing::of(side.0, side.1).unwrap_or(Pairing::OtherSpitz);
+    let mut plant = make_plant(rng, pairing, side, dirty, &[]);
+    if rng.chance(15) {
+        plant.technology = rng.word() as u8;
+    }
+    for _ in 0..rng.below(3) {
+        let measure = make_measure(rng, &plant, pairing, side.2, dirty, &[], Size::Small);
+        plant.measures.push(measure);
+    }
+    plant
+}
+
+fn layout(rng: &mut Rng) -> Layout {
+    Layout {
+        order: rng.pick(&[Order::Deep, Order::Wide, Order::Shuffled, Order::Shuffled, Order::Sticky]),
+        gaps: if rng.chance(60) { 0 } else { rng.range(3, 30) as usize },
+        filler: if rng.chance(50) { Filler::Noise } else { Filler::Orphan },
+        spare: if rng.chance(30) { 0 } else { rng.range(1, 5) as usize },
+        noise: rng.chance(70),
+    }
+}
+
+// ---------------------------------------------------------------------------------------------------------------
+// Faults in the bytes
+
+/// A link field, with the owner of its chain and the kind it must lead to.
+#[derive(Clone, Copy, Debug)]
+struct Field {
+    owner: u64,
+    holder: u64,
+    at: usize,
+    kind: u8,
+}
+
+/// All link fields of a chain, the one that ends it last.
+fn fields(owner: u64, first: usize, kind: u8, numbers: &[u64]) -> Vec<Field> {
+    let mut fields = vec![Field { owner, holder: owner, at: first, kind }];
+    fields.extend(numbers.iter().map(|&holder| Field { owner, holder, at: NEXT, kind }));
+    fields
+}
+
+/// Link fields of a settled measure's chain; of plants and measures only those followed up to the place wanted.
+fn chain_fields(filed: &Filed, chain: Chain, plant: usize, measure: usize, p: u64, k: u64) -> Vec<Field> {
+    let own = &filed.plants[plant];
+    let inner = &own.measures[measure];
+    match chain {
+        Plants => {
+            let numbers: Vec<u64> = filed.plants.iter().map(|plant| plant.number).collect();
+            let mut all = fields(0, FIRST, PLANT, &numbers);
+            all.truncate(p.clamp(1, all.len() as u64) as usize);
+            all
+        }
+        Measures => {
+            let numbers: Vec<u64> = own.measures.iter().map(|measure| measure.number).collect();
+            let mut all = fields(own.number, SECOND, MEASURE, &numbers);
+            all.truncate(k.clamp(1, all.len() as u64) as usize);
+            all
+        }
+        Curve => fields(own.number, FIRST, POINT, &own.curve),
+        Chain::Before => fields(inner.number, FIRST, BEFORE, &inner.before),
+        Quarters => fields(inner.number, SECOND, QUARTER, &inner.quarters),
+    }
+}
+
+fn position(rng: &mut Rng, count: usize) -> usize {
+    match rng.below(10) {
+        0 | 1 => 0,
+        2..=4 => count - 1,
+        _ => rng.below(count),
+    }
+}
+
+/// Makes one of the links wrong: not above its holder, or not below U.
+fn break_link(rng: &mut Rng, filed: &mut Filed, fields: &[Field]) {
+    let field = fields[position(rng, fields.len())];
+    let (used, all) = (filed.used, filed.all());
+    let to = match rng.below(10) {
+        0 | 1 if field.holder > 0 => field.holder,
+        2 if field.holder > 1 => 1 + rng.word() % (field.holder - 1),
+        // Back along its own chain, or anywhere between owner and holder with the right kind.
+        3..=5 if field.holder > field.owner + 1 => {
+            let right: Vec<u64> =
+                (field.owner + 1..=field.holder).filter(|&number| filed.kind(number) == field.kind).collect();
+            if right.is_empty() {
+                field.holder
+            } else {
+                rng.pick(&right)
+            }
+        }
+        // An unused record that looks right.
+        6 | 7 if all > used => {
+            let unused = used + rng.word() % (all - used);
+            *filed.byte(unused, 0) = field.kind;
+            if rng.chance(70) {
+                filed.set_link(unused, NEXT, 0);
+            }
+            unused
+        }
+        8 => rng.pick(&[used, all, all + 1, 65_535, 65_536]).max(used),
+        _ => {
+            let right = filed.link(field.holder, field.at);
+            let high = rng.pick(&[1 << 16, 1 << 31, 1 << 24, u64::from(u32::MAX), 0xffff_0000]);
+            (right | high).max(used)
+        }
+    };
+    filed.set_link(field.holder, field.at, to as u32);
+}
+
+/// Puts a wrong kind at one of the links; false if the chain gives no chance to.
+fn break_kind(rng: &mut Rng, filed: &mut Filed, fields: &[Field]) -> bool {
+    let field = fields[position(rng, fields.len())];
+    let to = filed.link(field.holder, field.at);
+    let wrong: Vec<u64> =
+        (field.holder + 1..filed.used).filter(|&number| filed.kind(number) != field.kind).take(40).collect();
+    if to == 0 || (rng.chance(30) && !wrong.is_empty()) {
+        if wrong.is_empty() {
+            return false;
+        }
+        let to = rng.pick(&wrong);
+        filed.set_link(field.holder, field.at, to as u32);
+    } else if to < filed.used {
+        let mut kind = rng.pick(&[0, 1, 2, 3, 4, 5, 6, 65, 255]);
+        if kind == field.kind {
+            kind = 9;
+        }
+        *filed.byte(to, 0) = kind;
+    }
+    true
+}
+
+fn break_head(rng: &mut Rng, filed: &mut Filed, fault: Fault) {
+    match fault {
+        Text => {
+            let at = rng.below(4);
+            let wrong = rng.pick(&[0, b'a', b'B', b'A' ^ 0x80, b'R' + 1]);
+            let right = *filed.byte(0, at);
+            *filed.byte(0, at) = if wrong == right { right ^ 1 } else { wrong };
+        }
+        Used => {
+            let all = filed.all() as u32;
+            let wrong = rng.pick(&[0, all + 1, all + 2, all | 1 << 16, all | 1 << 31, u32::MAX]);
+            filed.set_used(if wrong == all { 0 } else { wrong });
+        }
+        _ => {
+            // Length: ragged, empty, or one record too many.
+            match rng.below(20) {
+                0..=2 => filed.bytes.clear(),
+                3 => filed.bytes.truncate(31),
+                4 => filed.bytes.resize(RECORD * (MOST_RECORDS + 1), 0),
+                5..=9 => {
+                    let less = filed.bytes.len() - 1 - rng.below(31);
+                    filed.bytes.truncate(less);
+                }
+                _ => {
+                    let more = 1 + rng.below(31);
+                    let noise = rng.bytes(more);
+                    filed.bytes.extend(noise);
+                }
+            }
+        }
+    }
+}
+
+/// Every link field of the used records, by kind.
+fn all_fields(filed: &Filed) -> Vec<Field> {
+    let mut all = vec![Field { owner: 0, holder: 0, at: FIRST, kind: PLANT }];
+    for number in 1..filed.used {
+        let kind = filed.kind(number);
+        let mut push = |at, kind| all.push(Field { owner: number, holder: number, at, kind });
+        if (1..=5).contains(&kind) {
+            push(NEXT, kind);
+        }
+        if kind == PLANT || kind == MEASURE {
+            push(FIRST, kind + 1);
+            push(SECOND, kind + 2);
+        }
+    }
+    all
+}
+
+/// Points a link of any chain to another record of the right kind: shared and interleaved chains.
+fn share(rng: &mut Rng, filed: &mut Filed) {
+    let all = all_fields(filed);
+    for _ in 0..20 {
+        let field = rng.pick(&all);
+        let right: Vec<u64> =
+            (field.holder + 1..filed.used).filter(|&number| filed.kind(number) == field.kind).take(60).collect();
+        if !right.is_empty() {
+            let to = rng.pick(&right);
+            filed.set_link(field.holder, field.at, to as u32);
+            return;
+        }
+    }
+}
+
+/// Changes a few bytes, mostly in the parts that rules read.
+fn mutate(rng: &mut Rng, bytes: &mut [u8]) {
+    if bytes.is_empty() {
+        return;
+    }
+    for _ in 0..1 + rng.below(6) {
+        let mut at = rng.below(bytes.len());
+        if rng.chance(75) {
+            at = at / RECORD * RECORD + rng.below(24);
+        }
+        let at = at.min(bytes.len() - 1);
+        bytes[at] = match rng.below(5) {
+            0 => rng.word() as u8,
+            1 => bytes[at].wrapping_add(1),
+            2 => bytes[at].wrapping_sub(1),
+            3 => bytes[at] ^ 1 << rng.below(8),
+            _ => rng.pick(&[0, 1, 2, 3, 4, 5]),
+        };
+    }
+}
+
+/// Records with plausible kinds, links and fields at random.
+fn soup(rng: &mut Rng) -> Vec<u8> {
+    let most = if rng.chance(70) { 12 } else { 60 };
+    let count = 1 + rng.below(most);
+    let mut bytes = rng.bytes(count * RECORD);
+    let stray = rng.below(12);
+    for number in 0..count {
+        let start = number * RECORD;
+        let record = &mut bytes[start..start + RECORD];
+        record[0] = if rng.below(100) < stray { rng.word() as u8 } else { 1 + rng.below(5) as u8 };
+        record[1] = rng.pick(&[0, 1, 1, 2, 2, 3, 7]);
+        record[2] = rng.pick(&[0, 1, 1, 2, 2, 3, 50]);
+        for at in [4, 8, 12] {
+            let above = count - number - 1;
+            let to = match rng.below(100) {
+                0..=39 => 0,
+                _ if rng.below(100) < stray => rng.below(count + 3),
+                _ if above == 0 => 0,
+                _ if rng.chance(60) => number + 1 + rng.below(above.min(4)),
+                _ => number + 1 + rng.below(above),
+            };
+            record[at..at + 4].copy_from_slice(&(to as u32).to_le_bytes());
+        }
+        for at in [16, 20] {
+            let value = rng.pick(&[0, 1, 30, 500, 100_000, 1_000_000, 1_000_000_000, -1, 1_000_000_001]);
+            record[at..at + 4].copy_from_slice(&i32::to_le_bytes(value));
+        }
+    }
+    bytes[..4].copy_from_slice(b"AARB");
+    let used = if rng.chance(80) { count } else { 1 + rng.below(count) };
+    bytes[4..8].copy_from_slice(&(used as u32).to_le_bytes());
+    if count > 1 && rng.chance(80) {
+        bytes[8..12].copy_from_slice(&1u32.to_le_bytes());
+        bytes[RECORD] = PLANT;
+    }
+    bytes
+}
+
+/// Bytes of any length and content.
+fn noise(rng: &mut Rng) -> Vec<u8> {
+    let length = match rng.below(4) {
+        0 => rng.below(200),
+        1 => RECORD * rng.below(8),
+        2 => rng.pick(&[0, 1, 31, 32, 33, 63, 64, 65]),
+        _ => RECORD * (1 + rng.below(30)),
+    };
+    let mut bytes = rng.bytes(length);
+    if length >= 8 && rng.chance(60) {
+        bytes[..4].copy_from_slice(b"AARB");
+        bytes[4..8].copy_from_slice(&(rng.below(length / 32 + 2) as u32).to_le_bytes());
+        if length >= 12 && rng.chance(50) {
+            bytes[8..12].copy_from_slice(&(rng.below(4) as u32).to_le_bytes());
+        }
+    }
+    bytes
+}
+
+// ---------------------------------------------------------------------------------------------------------------
+// Settle
+
+fn choose_faults(rng: &mut Rng, pairing: Pairing, count: usize) -> Vec<Fault> {
+    let fit = |fault: &Fault| fault.fits(pairing);
+    let mut faults = Vec::new();
+    if count >= 2 && rng.chance(60) {
+        let pairs: Vec<(Fault, Fault)> = PAIRS.iter().copied().filter(|(a, b)| fit(a) && fit(b)).collect();
+        let (a, b) = rng.pick(&pairs);
+        faults.extend([a, b]);
+    }
+    let all: Vec<Fault> = FAULTS.iter().copied().filter(fit).collect();
+    while faults.len() < count {
+        let fault = rng.pick(&all);
+        // Chains over their limit are long, so one in three of them is enough.
+        if fault == ManyQuarters && rng.chance(66) {
+            continue;
+        }
+        faults.push(fault);
+    }
+    faults
+}
+
+/// The largest numbers that the ranges allow.
+fn extreme(rng: &mut Rng) -> (Plant, Pairing) {
+    let most = LIMIT as i32 - if rng.chance(50) { 0 } else { rng.range(0, 9) as i32 };
+    let count = if rng.chance(10) { 2_976 } else { rng.below(20) + 1 };
+    let (pairing, side) = match rng.below(4) {
+        0 | 1 => (Pairing::WindSpitz, (1, 1)),
+        2 => (Pairing::SolarSpitz, (2, 1)),
+        _ => (Pairing::SolarPauschal, (2, 2)),
+    };
+    let mut plant = Plant {
+        technology: side.0,
+        variant: side.1,
+        nominal: most,
+        curve: vec![Point { speed: 0, power: 0 }, Point { speed: 100, power: most }, Point { speed: 1_000, power: 0 }],
+        measures: Vec::new(),
+    };
+    let mut before = Vec::new();
+    for at in 0..if pairing == Pairing::SolarSpitz { 96 } else { 4 } {
+        let weather = match pairing {
+            Pairing::WindSpitz => 100,
+            _ => i32::from(at == 0),
+        };
+        before.push(Before { mark: 1, measured: most, weather });
+    }
+    let quarter = Quarter {
+        month: 6,
+        time: 40,
+        measured: -most,
+        limit: -most,
+        weather: if pairing == Pairing::WindSpitz { 100 } else { 2_000 },
+        planned: most,
+    };
+    let mut quarters = vec![quarter; count];
+    for quarter in &mut quarters {
+        if rng.chance(20) {
+            quarter.measured += rng.below(9) as i32;
+            quarter.weather -= rng.below(2) as i32;
+        }
+    }
+    plant.measures.push(Measure { direction: 2, execution: rng.range(1, 3) as u8, before, quarters });
+    (plant, pairing)
+}
+
+/// A chain as long as an archive can hold, or an archive as long as allowed.
+fn longest(rng: &mut Rng) -> Filed {
+    let quarter = Quarter { month: 6, time: 40, measured: 5, limit: 5, weather: 5, planned: 7 };
+    let fill = if rng.chance(50) { MOST_RECORDS - 3 } else { rng.range(1, 40) as usize };
+    let measure = Measure { direction: 2, execution: 2, before: Vec::new(), quarters: vec![quarter; fill] };
+    let plant = Plant { technology: 3, variant: 1, nominal: 100_000, curve: Vec::new(), measures: vec![measure] };
+    file(&[plant], &Layout { spare: MOST_RECORDS - 3 - fill, ..Layout::PLAIN }, rng)
+}
+
+fn list_and_result(rng: &mut Rng, count: usize, faults: &[Fault]) -> (Vec<u8>, Vec<u8>) {
+    let mut places = match rng.below(10) {
+        0..=4 => count,
+        5..=8 => count + 1 + rng.below(8),
+        _ => 2_976.max(count),
+    };
+    if faults.contains(&List) {
+        places = match rng.below(4) {
+            0 => 0,
+            1 => rng.below(count.max(1)),
+            _ => count.saturating_sub(1),
+        };
+    }
+    if places > 4_000 {
+        places = rng.below(4_000);
+    }
+    let ragged = if rng.chance(50) { 0 } else { rng.below(8) };
+    let mut result = 24;
+    if faults.contains(&ResultPart) {
+        result = rng.pick(&[0, 0, 23, 23, 25, 25, 1, 8, 16, 32, 48]);
+    }
+    (rng.bytes(8 * places + ragged), rng.bytes(result))
+}
+
+fn settle_case(rng: &mut Rng) -> Case {
+    let mode = rng.below(1_000);
+    if mode < 25 {
+        let archive = if mode < 17 { soup(rng) } else { noise(rng) };
+        let (p, k) = (rng.below(4) as u64, rng.below(4) as u64);
+        let places = rng.below(8);
+        let (list, result) = list_and_result(rng, places, &[]);
+        return Case { call: Call::Settle { archive, p, k, list, result }, expected: None };
+    }
+    if mode == 25 && rng.chance(15) {
+        let mut filed = longest(rng);
+        let faults = if rng.chance(50) { vec![] } else { vec![rng.pick(&[Link(Quarters), Kind(Quarters), List])] };
+        return finish_settle(rng, &mut filed, 0, 0, &faults, None);
+    }
+    if mode < 45 {
+        let (plant, _) = extreme(rng);
+        let layout = layout(rng);
+        let mut filed = file(&[plant], &Layout { gaps: 0, ..layout }, rng);
+        return finish_settle(rng, &mut filed, 0, 0, &[], Some(0));
+    }
+
+    let count = match mode {
+        45..=449 => 0,
+        450..=709 => 1,
+        710..=899 => 2,
+        900..=929 => 3,
+        _ => 0,
+    };
+    // Wind Spitz has most of the faults.
+    let side = if count > 0 && rng.chance(35) { SIDES[0] } else { rng.pick(&SIDES) };
+    let pairing = Pairing::of(side.0, side.1).unwrap_or(Pairing::OtherSpitz);
+    let faults = choose_faults(rng, pairing, count);
+    let dirty = rng.chance(65);
+    let mut plant = make_plant(rng, pairing, side, dirty, &faults);
+    let measure = make_measure(rng, &plant, pairing, side.2, dirty, &faults, Size::Any);
+    let at_measure = rng.pick(&[0, 0, 0, 1, 2]);
+    for at in 0..at_measure + 1 + rng.below(2) {
+        let next = if at == at_measure {
+            measure.clone()
+        } else {
+            let direction = rng.range(0, 3) as u8;
+            make_measure(rng, &plant, pairing, direction, dirty, &[], Size::Small)
+        };
+        plant.measures.push(next);
+    }
+    // A plant with a wrong technology and no measure at all.
+    let bare = faults.contains(&NoMeasure) && rng.chance(15);
+    let at_plant = rng.pick(&[0, 0, 0, 1, 2, 3]);
+    let mut plants = Vec::new();
+    for at in 0..at_plant + 1 + rng.below(2) {
+        plants.push(if at == at_plant { plant.clone() } else { company(rng, dirty) });
+    }
+    let mut layout = layout(rng);
+    if measure.quarters.len() > 10_000 {
+        layout.gaps = 0;
+    }
+    let mut filed = file(&plants, &layout, rng);
+
+    // Links that this pairing doesn't need hold any four bytes.
+    if dirty && rng.chance(40) {
+        let (own, inner) = (filed.plants[at_plant].number, filed.plants[at_plant].measures[at_measure].number);
+        if pairing != Pairing::WindSpitz {
+            let noise = any(rng) as u32;
+            filed.set_link(own, FIRST, noise);
+        }
+        if !uses_before(pairing) {
+            let noise = any(rng) as u32;
+            filed.set_link(inner, FIRST, noise);
+        }
+        // The next links of plant p and measure k aren't read.
+        if rng.chance(50) && !faults.iter().any(|fault| matches!(fault, NoPlant | NoMeasure)) {
+            let noise = any(rng) as u32;
+            filed.set_link(own, NEXT, noise);
+            let noise = any(rng) as u32;
+            filed.set_link(inner, NEXT, noise);
+        }
+    }
+    if bare {
+        let own = filed.plants[at_plant].number;
+        filed.set_link(own, SECOND, 0);
+    }
+    let mut expected = match faults.as_slice() {
+        [] => Some(0),
+        [fault] => Some(fault.number()),
+        _ => None,
+    };
+    if mode >= 930 {
+        expected = None;
+        if mode < 955 {
+            for _ in 0..1 + rng.below(3) {
+                share(rng, &mut filed);
+            }
+        } else {
+            mutate(rng, &mut filed.bytes);
+            // The head may be gone: the faults below need none of it.
+        }
+    }
+    finish_settle(rng, &mut filed, at_plant, at_measure, &faults, expected)
+}
+
+/// Puts the faults into the bytes and the numbers of the call.
+fn finish_settle(
+    rng: &mut Rng,
+    filed: &mut Filed,
+    plant: usize,
+    measure: usize,
+    faults: &[Fault],
+    mut expected: Option<Refusal>,
+) -> Case {
+    let (mut p, mut k) = (plant as u64 + 1, measure as u64 + 1);
+    if faults.contains(&NoPlant) {
+        p = missing_place(rng, filed.plants.len() as u64);
+    }
+    if faults.contains(&NoMeasure) {
+        k = missing_place(rng, filed.plants[plant].measures.len() as u64);
+    }
+    let mut order = faults.to_vec();
+    if rng.chance(50) {
+        order.reverse();
+    }
+    for &fault in &order {
+        match fault {
+            Link(chain) => {
+                let fields = chain_fields(filed, chain, plant, measure, p, k);
+                break_link(rng, filed, &fields);
+            }
+            Kind(chain) => {
+                let fields = chain_fields(filed, chain, plant, measure, p, k);
+                if !break_kind(rng, filed, &fields) {
+                    expected = None;
+                }
+            }
+            _ => {}
+        }
+    }
+    for &fault in &order {
+        if matches!(fault, Length | Text | Used) {
+            break_head(rng, filed, fault);
+            if filed.bytes.len() < RECORD {
+                break;
+            }
+        }
+    }
+    let count = filed.plants[plant].measures[measure].quarters.len();
+    let (list, result) = list_and_result(rng, count, faults);
+    Case { call: Call::Settle { archive: filed.bytes.clone(), p, k, list, result }, expected }
+}
+
+// ---------------------------------------------------------------------------------------------------------------
+// Append
+
+#[derive(Clone, Copy, PartialEq, Eq)]
+enum Filing {
+    Head,
+    RecordLength,
+    RecordKind,
+    RecordNext,
+    RecordLinks,
+    OwnerUnused,
+    OwnerKind,
+    Link,
+    Kind,
+    Full,
+}
+
+const FILINGS: [Filing; 10] = [
+    Filing::Head,
+    Filing::RecordLength,
+    Filing::RecordKind,
+    Filing::RecordNext,
+    Filing::RecordLinks,
+    Filing::OwnerUnused,
+    Filing::OwnerKind,
+    Filing::Link,
+    Filing::Kind,
+    Filing::Full,
+];
+
+/// Several small plants with measures.
+fn small_sheet(rng: &mut Rng, dirty: bool) -> Vec<Plant> {
+    let mut plants: Vec<Plant> = (0..rng.below(4)).map(|_| company(rng, dirty)).collect();
+    if rng.chance(3) {
+        if let Some(measure) = plants.iter_mut().flat_map(|plant| &mut plant.measures).next() {
+            let one = Quarter { month: 1, ..Quarter::default() };
+            measure.quarters = vec![one; rng.pick(&[96, 2_976, 2_977])];
+            let mark = Before { mark: 1, measured: 0, weather: 0 };
+            measure.before = vec![mark; rng.pick(&[0, 96, 97])];
+        }
+    }
+    plants
+}
+
+fn append_case(rng: &mut Rng) -> Case {
+    let mode = rng.below(100);
+    let dirty = rng.chance(60);
+    let mut filings: Vec<Filing> = match mode {
+        0..=39 => vec![],
+        40..=69 => vec![rng.pick(&FILINGS)],
+        70..=91 => vec![rng.pick(&FILINGS), rng.pick(&FILINGS)],
+        _ => vec![],
+    };
+    let mut kind = 1 + rng.below(5) as u8;
+    if filings.contains(&Filing::RecordLinks) {
+        kind = rng.pick(&[PLANT, MEASURE]);
+    }
+    let mut layout = layout(rng);
+    let full = filings.contains(&Filing::Full);
+    layout.spare = if full { 0 } else { layout.spare.max(1) };
+    let mut filed = if mode == 99 && rng.chance(10) {
+        longest(rng)
+    } else {
+        let mut plants = small_sheet(rng, dirty);
+        let few = plants.iter().all(|plant| plant.measures.is_empty());
+        if kind > PLANT && (plants.is_empty() || few) && rng.chance(95) {
+            let mut plant = company(rng, dirty);
+            if plant.measures.is_empty() {
+                let before = Before { mark: 1, measured: 3, weather: 3 };
+                let quarters = vec![Quarter::default(); rng.below(4)];
+                let measure = Measure { direction: 2, execution: 2, before: vec![before; rng.below(4)], quarters };
+                plant.measures.push(measure);
+            }
+            plants.push(plant);
+        }
+        file(&plants, &layout, rng)
+    };
+
+    // The owner and its chain.
+    let plants = filed.plants.len();
+    let with: Vec<usize> = (0..plants).filter(|&at| !filed.plants[at].measures.is_empty()).collect();
+    let (owner, mut chain) = match kind {
+        PLANT => {
+            let numbers: Vec<u64> = filed.plants.iter().map(|plant| plant.number).collect();
+            (0, fields(0, FIRST, PLANT, &numbers))
+        }
+        POINT | MEASURE if plants > 0 => {
+            let plant = &filed.plants[rng.below(plants)];
+            let numbers: Vec<u64> = plant.measures.iter().map(|measure| measure.number).collect();
+            let chain = if kind == POINT {
+                fields(plant.number, FIRST, POINT, &plant.curve)
+            } else {
+                fields(plant.number, SECOND, MEASURE, &numbers)
+            };
+            (plant.number, chain)
+        }
+        BEFORE | QUARTER if !with.is_empty() => {
+            let plant = &filed.plants[rng.pick(&with)];
+            let measure = &plant.measures[rng.below(plant.measures.len())];
+            let chain = if kind == BEFORE {
+                fields(measure.number, FIRST, BEFORE, &measure.before)
+            } else {
+                fields(measure.number, SECOND, QUARTER, &measure.quarters)
+            };
+            (measure.number, chain)
+        }
+        // No such owner: 15 for the head.
+        _ => {
+            filings.push(Filing::OwnerKind);
+            (0, vec![Field { owner: 0, holder: 0, at: FIRST, kind: PLANT }])
+        }
+    };
+    let mut expected = match filings.as_slice() {
+        [] => Some(0),
+        [filing] => Some(match filing {
+            Filing::Head => 1,
+            Filing::OwnerUnused | Filing::OwnerKind => 15,
+            Filing::Link => 2,
+            Filing::Kind => 3,
+            Filing::Full => 16,
+            _ => 14,
+        }),
+        _ => None,
+    };
+
+    let mut call_owner = owner;
+    if filings.contains(&Filing::Link) {
+        break_link(rng, &mut filed, &chain);
+    }
+    if filings.contains(&Filing::Kind) && !break_kind(rng, &mut filed, &chain) {
+        expected = None;
+    }
+    // Things append doesn't look at: the owner's own place on a chain, its own next link, its other chain.
+    if owner != 0 && rng.chance(25) {
+        chain.truncate(1);
+        let other = if chain[0].at == FIRST { SECOND } else { FIRST };
+        let wrong = any(rng) as u32;
+        match rng.below(3) {
+            0 => filed.set_link(owner, NEXT, wrong),
+            1 => filed.set_link(owner, other, wrong),
+            _ => {
+                for number in 0..owner {
+                    for at in [NEXT, FIRST, SECOND] {
+                        if (number, at) != (0, NEXT)
+                            && matches!(filed.kind(number), PLANT | MEASURE | b'A')
+                            && filed.link(number, at) == owner
+                        {
+                            filed.set_link(number, at, 0);
+                        }
+                    }
+                }
+            }
+        }
+    }
+    if filings.contains(&Filing::OwnerUnused) {
+        let (used, all) = (filed.used, filed.all());
+        call_owner = match rng.below(8) {
+            0 | 1 => used,
+            2 => all,
+            3 => all + 1,
+            4 | 5 => (1 << 32) + owner,
+            6 => rng.pick(&[65_535, 65_536, 1 << 32, 1 << 63]).max(used),
+            _ => u64::MAX,
+        };
+        if call_owner < all {
+            *filed.byte(call_owner, 0) = if kind < 4 { PLANT } else { MEASURE };
+        }
+    }
+    if filings.contains(&Filing::OwnerKind) {
+        let right = |found: u8| if kind < 4 { kind > PLANT && found == PLANT } else { found == MEASURE };
+        let wrong: Vec<u64> = (1..filed.used).filter(|&number| !right(filed.kind(number))).take(50).collect();
+        call_owner = if wrong.is_empty() || (kind != PLANT && rng.chance(25)) { 0 } else { rng.pick(&wrong) };
+        if kind == PLANT && call_owner == 0 {
+            call_owner = filed.used;
+        } else if call_owner != 0 && rng.chance(20) {
+            let start = call_owner as usize * RECORD;
+            filed.bytes[start..start + 4].copy_from_slice(b"AARB");
+            if kind != PLANT {
+                *filed.byte(call_owner, 0) = b'A';
+            }
+            expected = if filings.len() == 1 { Some(15) } else { None };
+        }
+    }
+
+    let mut record = rng.bytes(RECORD);
+    record[0] = kind;
+    record[4..8].fill(0);
+    if kind == PLANT || kind == MEASURE {
+        record[8..16].fill(0);
+    }
+    if filings.contains(&Filing::RecordKind) {
+        record[0] = rng.pick(&[0, 6, 9, 65, 128, 255]);
+    }
+    if filings.contains(&Filing::RecordNext) {
+        let at = 4 + rng.below(4);
+        record[at] = 1 + rng.below(255) as u8;
+    }
+    if filings.contains(&Filing::RecordLinks) {
+        let at = 8 + rng.below(8);
+        record[at] = 1 + rng.below(255) as u8;
+    }
+    if filings.contains(&Filing::RecordLength) {
+        let length = rng.pick(&[0, 1, 8, 31, 33, 64]);
+        record.resize(length, 0);
+    }
+    if filings.contains(&Filing::Head) {
+        let fault = rng.pick(&[Length, Text, Used]);
+        break_head(rng, &mut filed, fault);
+    }
+    if mode >= 92 {
+        expected = None;
+        match mode {
+            92..=94 => mutate(rng, &mut filed.bytes),
+            95 => filed.bytes = noise(rng),
+            96 | 97 => {
+                filed.bytes = soup(rng);
+                call_owner = rng.below(6) as u64;
+            }
+            98 => share(rng, &mut filed),
+            _ => {}
+        }
+    }
+    Case { call: Call::Append { archive: filed.bytes, owner: call_owner, record }, expected }
+}
+
+// ---------------------------------------------------------------------------------------------------------------
+// Audit, show, fresh
+
+fn audit_case(rng: &mut Rng) -> Case {
+    let mode = rng.below(100);
+    let any_case = |archive| Case { call: Call::Audit { archive }, expected: None };
+    match mode {
+        0..=2 => {
+            let archive = noise(rng);
+            return any_case(archive);
+        }
+        3..=8 => {
+            let archive = soup(rng);
+            return any_case(archive);
+        }
+        9 if rng.chance(5) => {
+            let archive = longest(rng).bytes;
+            return any_case(archive);
+        }
+        // What settle or append takes, audit may not.
+        10..=24 => {
+            let case = if rng.chance(70) { settle_case(rng) } else { append_case(rng) };
+            if let Call::Settle { archive, .. } | Call::Append { archive, .. } = case.call {
+                return any_case(archive);
+            }
+        }
+        _ => {}
+    }
+    let dirty = rng.chance(60);
+    let plants = small_sheet(rng, dirty);
+    let mut layout = layout(rng);
+    layout.gaps = 0;
+    let faults = match mode {
+        0..=49 => 0,
+        50..=79 => 1,
+        80..=94 => 2,
+        _ => 3,
+    };
+    let mut kinds: Vec<usize> = (0..faults).map(|_| rng.below(8)).collect();
+    if kinds.contains(&5) {
+        layout.gaps = 12;
+        layout.filler = Filler::Orphan;
+    }
+    let mut filed = file(&plants, &layout, rng);
+    let mut expected = if faults == 0 { Some(0) } else { None };
+    // The bytes of the head go last.
+    kinds.sort_by_key(|&kind| kind == 0);
+    for &kind in &kinds {
+        if filed.used < 2 && kind != 0 {
+            continue;
+        }
+        let number = 1 + rng.word() % filed.used.max(2).saturating_sub(1);
+        let all = all_fields(&filed);
+        let set: Vec<Field> = all.iter().copied().filter(|field| filed.link(field.holder, field.at) != 0).collect();
+        let free: Vec<Field> = all.iter().copied().filter(|field| filed.link(field.holder, field.at) == 0).collect();
+        let alone = faults == 1;
+        match kind {
+            0 => {
+                let fault = rng.pick(&[Length, Text, Used]);
+                break_head(rng, &mut filed, fault);
+                expected = Some(1);
+                break;
+            }
+            1 | 2 => {
+                let field = rng.pick(&all);
+                break_link(rng, &mut filed, &[field]);
+                expected = alone.then_some(2);
+            }
+            3 => {
+                *filed.byte(number, 0) = rng.pick(&[0, 6, 65, 255]);
+                expected = alone.then_some(3);
+            }
+            4 => {
+                let field = rng.pick(&all);
+                let broken = break_kind(rng, &mut filed, &[field]);
+                expected = (alone && broken).then_some(3);
+            }
+            5 => expected = None,
+            6 if !set.is_empty() => {
+                // Named by none.
+                let field = rng.pick(&set);
+                filed.set_link(field.holder, field.at, 0);
+                expected = alone.then_some(17);
+            }
+            _ if !free.is_empty() => {
+                // Named by several.
+                let field = rng.pick(&free);
+                let right = (field.holder + 1..filed.used).find(|&number| filed.kind(number) == field.kind);
+                if let Some(to) = right {
+                    filed.set_link(field.holder, field.at, to as u32);
+                    expected = alone.then_some(17);
+                } else if alone {
+                    expected = Some(0);
+                }
+            }
+            _ => expected = None,
+        }
+    }
+    if mode == 25 {
+        // Some records at the end fall behind U.
+        let used = 1 + rng.word() % filed.used;
+        filed.set_used(used as u32);
+        expected = None;
+    }
+    if mode == 26 || mode == 27 {
+        mutate(rng, &mut filed.bytes);
+        expected = None;
+    }
+    Case { call: Call::Audit { archive: filed.bytes }, expected }
+}
+
+fn show_case(rng: &mut Rng) -> Case {
+    let mut filed = if rng.below(2_000) == 0 {
+        longest(rng)
+    } else {
+        let plants = small_sheet(rng, true);
+        let layout = layout(rng);
+        file(&plants, &layout, rng)
+    };
+    let (used, all) = (filed.used, filed.all());
+    match rng.below(20) {
+        0 | 1 => {
+            let fault = rng.pick(&[Length, Text, Used]);
+            break_head(rng, &mut filed, fault);
+        }
+        2 => filed.bytes = noise(rng),
+        3 | 4 => mutate(rng, &mut filed.bytes),
+        5 => filed.bytes = soup(rng),
+        _ => {}
+    }
+    let number = match rng.below(10) {
+        0 => 0,
+        1 => 1,
+        2 => used - 1,
+        3 => used,
+        4 => all.max(1) - 1,
+        5 => all,
+        6 => (1 << 32) + rng.word() % used,
+        7 => rng.pick(&[u64::MAX, 1 << 63, 1 << 32, 65_535, 1 << 59, (1 << 59) + 1]),
+        _ => rng.word() % used,
+    };
+    Case { call: Call::Show { archive: filed.bytes, number }, expected: None }
+}
+
+fn fresh_case(rng: &mut Rng) -> Case {
+    let archive = match rng.below(10) {
+        0..=2 => noise(rng),
+        3 | 4 => {
+            let records = 1 + rng.below(40);
+            rng.bytes(records * RECORD)
+        }
+        5 => {
+            let length = rng.pick(&[0, 1, 31, 32, 33, 63, 64]);
+            rng.bytes(length)
+        }
+        6 if rng.chance(3) => {
+            let length = rng.pick(&[MOST_RECORDS * RECORD, MOST_RECORDS * RECORD + RECORD, MOST_RECORDS * RECORD + 1]);
+            rng.bytes(length)
+        }
+        _ => {
+            let plants = small_sheet(rng, true);
+            let layout = layout(rng);
+            file(&plants, &layout, rng).bytes
+        }
+    };
+    Case { call: Call::Fresh { archive }, expected: None }
+}
+
+// ---------------------------------------------------------------------------------------------------------------
+// Inputs of the program
+
+/// Plants that share measures that share quarters: few records, many lines.
+fn lattice(rng: &mut Rng) -> Vec<u8> {
+    let (plants, measures, quarters) = match rng.below(10) {
+        0 => (40, 45, 48),
+        1..=3 => (12, 20, 30),
+        _ => (1 + rng.below(6), 1 + rng.below(6), 1 + rng.below(40)),
+    };
+    let quarter = Quarter { month: 6, time: 40, measured: 0, limit: 0, weather: 0, planned: rng.range(0, 9) as i32 };
+    let own = Measure { direction: 2, execution: 2, before: Vec::new(), quarters: Vec::new() };
+    let plant = Plant { technology: 3, variant: 1, nominal: 100_000, curve: Vec::new(), measures: Vec::new() };
+    let mut sheet = vec![plant; plants];
+    sheet[plants - 1].measures = vec![own; measures];
+    sheet[plants - 1].measures[measures - 1].quarters = vec![quarter; quarters];
+    let mut filed = file(&sheet, &Layout::PLAIN, rng);
+    let last = filed.plants[plants - 1].measures.clone();
+    let first_quarter = last[measures - 1].quarters[0];
+    for at in 0..plants {
+        let number = filed.plants[at].number;
+        filed.set_link(number, SECOND, last[0].number as u32);
+    }
+    for measure in &last {
+        filed.set_link(measure.number, SECOND, first_quarter as u32);
+    }
+    filed.bytes
+}
+
+/// Input number `index` of a seed for the program.
+pub fn input(seed: u64, index: u64) -> Vec<u8> {
+    let mut rng = Rng::new(seed ^ 0x5072_6f67_7261_6d00, index);
+    let rng = &mut rng;
+    let mode = rng.below(100);
+    match mode {
+        0 | 1 => return noise(rng),
+        2..=5 => return soup(rng),
+        6 | 7 => return lattice(rng),
+        8 => {
+            // Fresh archives.
+            let mut archive = vec![0; RECORD * (1 + rng.below(20))];
+            crate::fresh(&mut archive);
+            return archive;
+        }
+        _ => {}
+    }
+    let dirty = rng.chance(60);
+    let mut plants = Vec::new();
+    for _ in 0..rng.pick(&[0, 1, 1, 2, 2, 3, 4, 5]) {
+        let side = rng.pick(&SIDES);
+        let pairing = Pairing::of(side.0, side.1).unwrap_or(Pairing::OtherSpitz);
+        let some = |rng: &mut Rng, percent| {
+            let count = usize::from(rng.chance(percent));
+            choose_faults(rng, pairing, count)
+        };
+        let mut faults = some(rng, 10);
+        if rng.chance(15) {
+            let fault = rng.pick(&[Technology, Variant, Nominal, CurveField, FewPoints, NotRising, ZeroB]);
+            faults.push(fault);
+        }
+        let mut plant = make_plant(rng, pairing, side, dirty, &faults);
+        for _ in 0..rng.pick(&[0, 1, 1, 2, 3, 4]) {
+            let mut faults = some(rng, 40);
+            faults.retain(|&fault| fault != ManyQuarters);
+            let direction = if rng.chance(10) { 1 } else { side.2 };
+            let measure = make_measure(rng, &plant, pairing, direction, dirty, &faults, Size::Small);
+            plant.measures.push(measure);
+        }
+        plants.push(plant);
+    }
+    if rng.chance(2) {
+        // A measure of 1,500 quarters or more, as many as the input's limit allows.
+        if let Some(measure) = plants.iter_mut().flat_map(|plant| &mut plant.measures).next() {
+            let one = Quarter { month: 7, time: 40, measured: 11, limit: 5, weather: 30, planned: 77 };
+            measure.quarters = vec![one; rng.range(1_500, 1_700) as usize];
+        }
+    }
+    let mut layout = layout(rng);
+    layout.gaps = layout.gaps.min(8);
+    let mut filed = file(&plants, &layout, rng);
+
+    if (60..85).contains(&mode) {
+        // A wrong link or kind somewhere, so that 2 or 3 ends the program.
+        let all = all_fields(&filed);
+        let weights: Vec<Field> = all.iter().copied().filter(|field| field.holder != 0 || rng.chance(20)).collect();
+        if !weights.is_empty() {
+            let field = rng.pick(&weights);
+            if rng.chance(50) {
+                break_link(rng, &mut filed, &[field]);
+            } else {
+                break_kind(rng, &mut filed, &[field]);
+            }
+        }
+    }
+    match mode {
+        85..=88 => {
+            for _ in 0..1 + rng.below(4) {
+                share(rng, &mut filed);
+            }
+        }
+        89..=92 => mutate(rng, &mut filed.bytes),
+        93 | 94 => {
+            let fault = rng.pick(&[Length, Text, Used]);
+            break_head(rng, &mut filed, fault);
+            filed.bytes.truncate(70_000);
+        }
+        95 | 96 => filed.bytes.resize(65_536, 0),
+        97 => filed.bytes.resize(rng.range(65_537, 65_567) as usize, 0),
+        98 => {
+            let length = rng.pick(&[65_568, 65_600, 65_569, 100_000, 98_304]);
+            filed.bytes.resize(length, 0);
+        }
+        _ => {}
+    }
+    filed.bytes
+}

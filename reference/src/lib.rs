@@ -1,0 +1,28 @@
+//! Settlement of curtailed energy: a reference written from document 01 and the decisions on it alone.
+//!
+//! The plain modules follow the paper sentence by sentence: `archive` ("The archive"), `settle` ("From readings to
+//! exact fractions" and settle), `filing` (fresh, append, show), `audit` and `program`. They keep S and R as exact
+//! sums and round those.
+//! `fast` does the same calls with speed in mind. `builder` and `generate` make inputs, `slips` holds likely wrong
+//! readings, so that the inputs can be shown to tell them apart.
+
+#![forbid(unsafe_code)]
+
+pub mod archive;
+pub mod audit;
+pub mod builder;
+pub mod fast;
+pub mod filing;
+pub mod generate;
+pub mod program;
+pub mod rng;
+pub mod settle;
+pub mod slips;
+
+#[cfg(test)]
+mod tests;
+
+pub use audit::audit;
+pub use filing::{append, fresh, show};
+pub use program::program;
+pub use settle::{host_settle, settle, Answer};

@@ -1,0 +1,511 @@
+//! Document 01's own figures and examples, `fast` and the slips against the plain modules, and read-back.
+
+use crate::archive::{link, record, used, FIRST, NEXT, RECORD, SECOND};
+use crate::builder::*;
+use crate::generate::{self, Call};
+use crate::rng::Rng;
+use crate::settle::{curve_power, factor};
+use crate::slips::{self, Of, Slip, SLIPS};
+use crate::{append, audit, fast, fresh, host_settle, program, settle, show, Answer};
+
+fn quiet() -> Rng {
+    Rng::new(0, 0)
+}
+
+fn archive(plants: &[Plant]) -> Filed {
+    file(plants, &Layout::PLAIN, &mut quiet())
+}
+
+fn before(measured: i32, weather: i32) -> Before {
+    Before { mark: 1, measured, weather }
+}
+
+fn quarter(measured: i32) -> Quarter {
+    Quarter { month: 7, time: 40, measured, limit: measured, weather: 0, planned: 0 }
+}
+
+fn point(speed: i32, power: i32) -> Point {
+    Point { speed, power }
+}
+
+fn measure(direction: u8, execution: u8, before: Vec<Before>, quarters: Vec<Quarter>) -> Measure {
+    Measure { direction, execution, before, quarters }
+}
+
+fn plant(technology: u8, variant: u8, nominal: i32, curve: Vec<Point>, measures: Vec<Measure>) -> Plant {
+    Plant { technology, variant, nominal, curve, measures }
+}
+
+/// Amounts of the only measure of the only plant, or the refusal; the same in both implementations.
+fn amounts(plant: Plant) -> Result<Vec<i64>, u32> {
+    let filed = archive(&[plant]);
+    let mut list = [77; 40];
+    let answer = settle(&filed.bytes, 1, 1, &mut list);
+    let mut other = [77; 40];
+    assert_eq!(answer, fast::settle(&filed.bytes, 1, 1, &mut other));
+    assert_eq!(list, other);
+    if answer.number != 0 {
+        assert_eq!((answer, list), (Answer::refused(answer.number), [77; 40]));
+        return Err(answer.number);
+    }
+    let count = answer.count as usize;
+    assert!(list[count..].iter().all(|&place| place == 77));
+    assert_eq!(answer.total, list[..count].iter().sum::<i64>());
+    Ok(list[..count].to_vec())
+}
+
+fn case_a() -> Plant {
+    let quarters = [500_001, 500_001, 500_002].map(quarter).to_vec();
+    plant(3, 2, 1_000_000, vec![], vec![measure(2, 2, vec![before(800_000, 0)], quarters)])
+}
+
+fn wind(nominal: i32, measured: i32, t: i32, l: i32) -> Plant {
+    let curve = vec![point(50, 1_000_000), point(80, 1_500_000), point(100, 2_000_000)];
+    let speed = curve.iter().find(|point| point.power == t).map_or(0, |point| point.speed);
+    let quarters = vec![Quarter { weather: speed, ..quarter(l) }];
+    plant(1, 1, nominal, curve, vec![measure(2, 2, vec![before(measured, 50); 4], quarters)])
+}
+
+fn solar_pauschal(month: u8, time: u8) -> Plant {
+    let quarters = vec![Quarter { month, time, ..quarter(0) }];
+    plant(2, 2, 1_000_000, vec![], vec![measure(2, 2, vec![], quarters)])
+}
+
+#[test]
+fn figure_a() {
+    assert_eq!(amounts(case_a()), Ok(vec![74_999, 75_000, 75_000]));
+}
+
+#[test]
+fn figure_b() {
+    assert_eq!(amounts(wind(2_000_000, 900_000, 1_500_000, 350_000)), Ok(vec![250_000]));
+}
+
+#[test]
+fn figure_c() {
+    assert_eq!(amounts(wind(2_000_000, 1_200_000, 2_000_000, 0)), Ok(vec![500_000]));
+}
+
+#[test]
+fn figure_d() {
+    // Reference 1,000,000 less L 600,000, a quarter of it.
+    let quarters = vec![Quarter { limit: 600_000, ..quarter(400_000) }];
+    let sheet = plant(3, 2, 1_000_000, vec![], vec![measure(2, 1, vec![before(1_000_000, 0)], quarters)]);
+    assert_eq!(amounts(sheet), Ok(vec![100_000]));
+}
+
+#[test]
+fn figure_e() {
+    let quarters = vec![Quarter { limit: 600_000, ..quarter(700_000) }];
+    let sheet = plant(3, 2, 1_000_000, vec![], vec![measure(1, 1, vec![before(500_000, 0)], quarters)]);
+    assert_eq!(amounts(sheet), Ok(vec![-25_000]));
+}
+
+#[test]
+fn figure_f() {
+    let curve = [(30, 0), (40, 100_001)];
+    let powers = [35, 40, 29, 41].map(|speed| curve_power(&curve, speed));
+    assert_eq!(powers, [50_000, 100_001, 0, 0]);
+    // Decision 27: rounded down on a falling piece too.
+    assert_eq!(curve_power(&[(30, 100_001), (40, 0)], 35), 50_000);
+}
+
+#[test]
+fn figure_g() {
+    let quarters = vec![Quarter { weather: 800, ..quarter(80_000) }];
+    let sheet = plant(2, 1, 1_000_000, vec![], vec![measure(2, 2, vec![before(300_000, 500); 3], quarters)]);
+    assert_eq!(amounts(sheet), Ok(vec![100_000]));
+}
+
+#[test]
+fn figure_h() {
+    assert_eq!(amounts(solar_pauschal(7, 35)), Ok(vec![61_400]));
+    assert_eq!(amounts(solar_pauschal(7, 36)), Ok(vec![154_725]));
+}
+
+#[test]
+fn figure_i() {
+    assert_eq!(amounts(solar_pauschal(11, 66)), Ok(vec![69_900]));
+    assert_eq!(amounts(solar_pauschal(11, 67)), Ok(vec![0]));
+}
+
+#[test]
+fn figure_j() {
+    assert_eq!(amounts(wind(2_000_000, 200_000, 1_000_000, 0)), Ok(vec![50_000]));
+    assert_eq!(amounts(wind(2_000_000, 199_999, 1_000_000, 0)), Err(11));
+}
+
+#[test]
+fn figure_k() {
+    let quarters = vec![quarter(-20_000)];
+    let sheet = plant(3, 2, 1_000_000, vec![], vec![measure(2, 2, vec![before(100_000, 0)], quarters)]);
+    assert_eq!(amounts(sheet), Ok(vec![30_000]));
+}
+
+#[test]
+fn factors_by_hour() {
+    let of = |month: u8| (0..96).map(|time| factor(month, time)).sum::<i128>();
+    assert_eq!(of(3), 28 * 2_456 + 24 * 6_189);
+    assert_eq!(of(10), of(3));
+    assert_eq!(of(2), 15 * 2_796 + 16 * 5_030);
+    assert_eq!(of(11), of(2));
+}
+
+/// The 17 examples of "Refused sheets".
+#[test]
+fn table() {
+    let good = archive(&[case_a()]);
+    let mut list = [5; 3];
+    let call = |archive: &[u8], p, k| {
+        let mut list = [5; 3];
+        let answer = settle(archive, p, k, &mut list);
+        assert_eq!((answer, list), (Answer::refused(answer.number), [5; 3]));
+        answer.number
+    };
+
+    // 1: 33 bytes.
+    assert_eq!(call(&good.bytes[..33], 1, 1), 1);
+    assert_eq!(audit(&good.bytes[..33]), 1);
+    assert_eq!(fresh(&mut [0; 33]), 1);
+    assert_eq!(append(&mut good.bytes[..33].to_vec(), 0, &[1; 32]), 1);
+    // 2: record 5 names 5.
+    let mut wrong = good.clone();
+    wrong.set_link(5, NEXT, 5);
+    assert_eq!((wrong.kind(5), call(&wrong.bytes, 1, 1)), (5, 2));
+    assert_eq!(audit(&wrong.bytes), 2);
+    // 3: quarters lead to kind 4.
+    let mut wrong = good.clone();
+    *wrong.byte(5, 0) = 4;
+    assert_eq!(call(&wrong.bytes, 1, 1), 3);
+    assert_eq!(audit(&wrong.bytes), 3);
+    // 4: p = 0.
+    assert_eq!(call(&good.bytes, 0, 1), 4);
+    // 5: k = 2 of one.
+    assert_eq!(call(&good.bytes, 1, 2), 5);
+    // 6: Pn = 99,999.
+    assert_eq!(amounts(Plant { nominal: 99_999, ..case_a() }), Err(6));
+    // 7: direction 3.
+    let mut wrong = case_a();
+    wrong.measures[0].direction = 3;
+    assert_eq!(amounts(wrong), Err(7));
+    // 8: no quarter.
+    let mut wrong = case_a();
+    wrong.measures[0].quarters.clear();
+    assert_eq!(amounts(wrong), Err(8));
+    // 9: month 13, in solar Pauschal only (decision 40).
+    assert_eq!(amounts(solar_pauschal(13, 40)), Err(9));
+    let mut fine = case_a();
+    fine.measures[0].quarters[0].month = 13;
+    assert!(amounts(fine).is_ok());
+    // 10: 30, 30.
+    let mut wrong = wind(2_000_000, 900_000, 1_500_000, 0);
+    wrong.curve = vec![point(30, 0), point(30, 5)];
+    assert_eq!(amounts(wrong), Err(10));
+    // 11: three of four.
+    let mut wrong = wind(2_000_000, 900_000, 1_500_000, 0);
+    wrong.measures[0].before[2].mark = 0;
+    assert_eq!(amounts(wrong), Err(11));
+    // 12: calm, four times.
+    let mut wrong = wind(2_000_000, 900_000, 1_500_000, 0);
+    wrong.measures[0].before.iter_mut().for_each(|one| one.weather = 0);
+    assert_eq!(amounts(wrong), Err(12));
+    // 13: 2 places for 3.
+    assert_eq!(settle(&good.bytes, 1, 1, &mut list[..2]), Answer::refused(13));
+    assert_eq!(list, [5; 3]);
+
+    // 14: kind 9.
+    let mut room = file(&[case_a()], &Layout { spare: 1, ..Layout::PLAIN }, &mut quiet());
+    let untouched = room.bytes.clone();
+    let new = |kind: u8| {
+        let mut bytes = [0; RECORD];
+        bytes[0] = kind;
+        bytes
+    };
+    assert_eq!(append(&mut room.bytes, 2, &new(9)), 14);
+    // 15: quarter under a plant.
+    assert_eq!(append(&mut room.bytes, 1, &new(5)), 15);
+    assert_eq!(room.bytes, untouched);
+    // 16: 1 record, U = 1.
+    let mut one = [9; RECORD];
+    assert_eq!(fresh(&mut one), 0);
+    assert_eq!(append(&mut one, 0, &new(1)), 16);
+    // 17: orphan 4.
+    assert_eq!(audit(&good.bytes), 0);
+    let mut wrong = good.clone();
+    wrong.set_link(2, SECOND, 5);
+    assert_eq!((wrong.kind(4), audit(&wrong.bytes)), (5, 17));
+}
+
+fn printed(input: &[u8]) -> String {
+    let mut out = Vec::new();
+    program(input, &mut out).unwrap();
+    String::from_utf8(out).unwrap()
+}
+
+#[test]
+fn printed_example() {
+    let filed = archive(&[case_a()]);
+    assert_eq!(printed(&filed.bytes), "M 1 1 3 224999 6\nQ 1 74999\nQ 2 75000\nQ 3 75000\n");
+}
+
+#[test]
+fn program_edges() {
+    assert_eq!(printed(&[]), "E 0 0 1\n");
+    let mut new = [1; 96];
+    fresh(&mut new);
+    assert_eq!(printed(&new), "");
+    let mut long = archive(&[case_a()]).bytes;
+    long.resize(65_536, 0);
+    assert!(printed(&long).starts_with("M 1 1 3"));
+    long.resize(65_568, 0);
+    assert_eq!(printed(&long), "E 0 0 1\n");
+    // 2 on a second plant's way: the place looked for, and 1 (decision 76).
+    let mut filed = archive(&[case_a(), case_a()]);
+    let first = filed.plants[0].number;
+    filed.set_link(first, NEXT, first as u32);
+    assert!(printed(&filed.bytes).ends_with("Q 3 75000\nE 2 1 2\n"));
+}
+
+/// Document 01's bounds: the largest totals, exact in 64 bits.
+#[test]
+fn largest() {
+    let most = 1_000_000_000;
+    let mut sunny = vec![before(most, 0); 96];
+    sunny[40].weather = 1;
+    let quarters = vec![Quarter { weather: 2_000, ..quarter(-most) }; 2_976];
+    let filed = archive(&[plant(2, 1, most, vec![], vec![measure(2, 2, sunny, quarters)])]);
+    let mut list = vec![0; 2_976];
+    let answer = settle(&filed.bytes, 1, 1, &mut list);
+    assert_eq!((answer.number, answer.total), (0, 142_848_744_000_000_000));
+    assert_eq!(answer.links, 1 + 1 + 96 + 2_976);
+    assert_eq!(answer, fast::settle(&filed.bytes, 1, 1, &mut list));
+
+    let windy = vec![before(most, 10); 4];
+    let quarters = vec![Quarter { weather: 10, ..quarter(-most) }; 2_976];
+    let curve = vec![point(0, 0), point(10, most)];
+    let filed = archive(&[plant(1, 1, most, curve, vec![measure(2, 2, windy, quarters)])]);
+    let answer = settle(&filed.bytes, 1, 1, &mut list);
+    assert_eq!((answer.number, answer.total, answer.links), (0, 1_488_000_000_000, 2 + 2 + 4 + 2_976));
+    assert_eq!(answer, fast::settle(&filed.bytes, 1, 1, &mut list));
+}
+
+/// One generated call on plain, `fast` and the module of slips without a slip.
+fn agree(seed: u64, index: u64) {
+    let case = generate::call(seed, index);
+    let number = match case.call {
+        Call::Settle { archive, p, k, list, result } => {
+            let run = |call: &dyn Fn(&mut [u8], &mut [u8]) -> u32| {
+                let (mut list, mut result) = (list.clone(), result.clone());
+                (call(&mut list, &mut result), list, result)
+            };
+            let plain = run(&|list, result| host_settle(&archive, p, k, list, result));
+            assert_eq!(plain, run(&|list, result| fast::host_settle(&archive, p, k, list, result)), "{index}");
+            assert_eq!(plain, run(&|list, result| slips::host_settle(Slip::None, &archive, p, k, list, result)));
+            // The call on numbers says the same.
+            if result.len() == 24 {
+                let mut numbers: Vec<i64> =
+                    list.chunks_exact(8).map(|place| i64::from_le_bytes(place.try_into().unwrap())).collect();
+                let mut others = numbers.clone();
+                let answer = settle(&archive, p, k, &mut numbers);
+                assert_eq!(answer, fast::settle(&archive, p, k, &mut others));
+                assert_eq!(numbers, others);
+                let later: Vec<i64> =
+                    plain.1.chunks_exact(8).map(|place| i64::from_le_bytes(place.try_into().unwrap())).collect();
+                assert_eq!((answer.number, numbers), (plain.0, later));
+                if answer.number == 0 {
+                    let parts = [answer.count, answer.total as u64, answer.links].map(u64::to_le_bytes);
+                    assert_eq!(plain.2, parts.concat());
+                } else {
+                    assert_eq!(answer, Answer::refused(answer.number));
+                    assert_eq!((&plain.1, &plain.2), (&list, &result));
+                }
+            }
+            Some(plain.0)
+        }
+        Call::Append { archive, owner, record } => {
+            let (mut plain, mut other, mut third) = (archive.clone(), archive.clone(), archive.clone());
+            let number = append(&mut plain, owner, &record);
+            assert_eq!(number, fast::append(&mut other, owner, &record), "{index}");
+            assert_eq!(number, slips::append(Slip::None, &mut third, owner, &record));
+            assert!(plain == other && plain == third);
+            assert!(number == 0 || plain == archive);
+            Some(number)
+        }
+        Call::Audit { archive } => {
+            let number = audit(&archive);
+            assert_eq!(number, fast::audit(&archive), "{index}");
+            assert_eq!(number, slips::audit(Slip::None, &archive));
+            Some(number)
+        }
+        Call::Show { archive, number } => {
+            let shown = show(&archive, number);
+            let place = slips::show_place(Slip::None, &archive, number);
+            let start = place as usize;
+            let end = if place < archive.len() as u64 { start + RECORD } else { start };
+            assert_eq!(shown, &archive[start..end]);
+            None
+        }
+        Call::Fresh { mut archive } => Some(fresh(&mut archive)),
+    };
+    if case.expected.is_some() {
+        assert_eq!(case.expected, number, "made for this number: {index}");
+    }
+}
+
+#[test]
+fn fast_agrees() {
+    for index in 0..12_000 {
+        agree(2, index);
+    }
+}
+
+/// Every slip shows somewhere in a few thousand calls of its kind.
+#[test]
+fn slips_show() {
+    let mut open: Vec<(Slip, Of)> = SLIPS.iter().map(|&(slip, of, _, _)| (slip, of)).collect();
+    for index in 0..60_000 {
+        if index < 4_000 {
+            let input = generate::input(3, index);
+            let right = printed(&input).into_bytes();
+            open.retain(|&(slip, of)| of != Of::Program || slips::program(slip, &input) == right);
+        }
+        match generate::call(3, index).call {
+            Call::Settle { archive, p, k, list, result } => {
+                let run = |slip| {
+                    let (mut list, mut result) = (list.clone(), result.clone());
+                    (slips::host_settle(slip, &archive, p, k, &mut list, &mut result), list, result)
+                };
+                let right = run(Slip::None);
+                open.retain(|&(slip, of)| of != Of::Settle || run(slip) == right);
+            }
+            Call::Append { archive, owner, record } => {
+                let run = |slip| {
+                    let mut archive = archive.clone();
+                    (slips::append(slip, &mut archive, owner, &record), archive)
+                };
+                let right = run(Slip::None);
+                open.retain(|&(slip, of)| of != Of::Append || run(slip) == right);
+            }
+            Call::Audit { archive } => {
+                let right = audit(&archive);
+                open.retain(|&(slip, of)| of != Of::Audit || slips::audit(slip, &archive) == right);
+            }
+            Call::Show { archive, number } => {
+                let run = |slip| slips::show_place(slip, &archive, number);
+                open.retain(|&(slip, of)| of != Of::Show || run(slip) == run(Slip::None));
+            }
+            Call::Fresh { archive } => {
+                let run = |slip| slips::fresh(slip, &mut archive.clone());
+                open.retain(|&(slip, of)| of != Of::Fresh || run(slip) == run(Slip::None));
+            }
+        }
+    }
+    assert!(open.is_empty(), "never seen: {open:?}");
+}
+
+/// Follows a chain and gives its records' bytes with the links taken out.
+fn chain_bytes(archive: &[u8], owner: u64, at: usize) -> Vec<Vec<u8>> {
+    let mut found = Vec::new();
+    let mut next = link(record(archive, owner), at);
+    while next != 0 {
+        let shown = show(archive, next);
+        let mut bytes = shown.to_vec();
+        bytes[4..8].fill(0);
+        if bytes[0] == 1 || bytes[0] == 3 {
+            bytes[8..16].fill(0);
+        }
+        found.push(bytes);
+        next = link(shown, NEXT);
+    }
+    found
+}
+
+/// Records filed one by one, chains mixed, come back along their chains; the archive stays sound and settles.
+#[test]
+fn read_back() {
+    for seed in 0..200 {
+        let mut rng = Rng::new(9, seed);
+        let mut archive = rng.bytes(RECORD * 200);
+        assert_eq!(fresh(&mut archive), 0);
+        // Chains filed so far: owner, first link, records.
+        let mut chains: Vec<(u64, usize, Vec<Vec<u8>>)> = vec![(0, FIRST, vec![])];
+        while used(&archive) != Ok(200) {
+            let at = rng.below(chains.len());
+            let (owner, first) = (chains[at].0, chains[at].1);
+            let owner_kind = if owner == 0 { 0 } else { record(&archive, owner)[0] };
+            let kind = match (owner_kind, first) {
+                (0, _) => 1,
+                (1, FIRST) => 2,
+                (1, _) => 3,
+                (_, FIRST) => 4,
+                _ => 5,
+            };
+            let mut new = rng.bytes(RECORD);
+            new[0] = kind;
+            new[4..8].fill(0);
+            if kind == 1 || kind == 3 {
+                new[8..16].fill(0);
+            }
+            let number = used(&archive).unwrap();
+            let before = archive.clone();
+            assert_eq!(append(&mut archive, owner, &new), 0);
+            assert_eq!(show(&archive, number), &new[..]);
+            assert!(show(&before, number).is_empty());
+            // U, the link and the record are all that changes.
+            let last = match chains[at].2.len() {
+                0 => (owner, first),
+                _ => {
+                    let mut holder = link(record(&before, owner), first);
+                    while link(record(&before, holder), NEXT) != 0 {
+                        holder = link(record(&before, holder), NEXT);
+                    }
+                    (holder, NEXT)
+                }
+            };
+            let mut expected = before;
+            expected[number as usize * RECORD..][..RECORD].copy_from_slice(&new);
+            expected[last.0 as usize * RECORD + last.1..][..4].copy_from_slice(&(number as u32).to_le_bytes());
+            expected[4..8].copy_from_slice(&(number as u32 + 1).to_le_bytes());
+            assert!(archive == expected);
+            chains[at].2.push(new);
+            if kind == 1 || kind == 3 {
+                chains.push((number, FIRST, vec![]));
+                chains.push((number, SECOND, vec![]));
+            }
+        }
+        assert_eq!(
+            append(&mut archive, 0, &{
+                let mut new = [0; RECORD];
+                new[0] = 1;
+                new
+            }),
+            16
+        );
+        for (owner, first, records) in &chains {
+            assert_eq!(&chain_bytes(&archive, *owner, *first), records);
+        }
+        assert_eq!(audit(&archive), 0);
+    }
+}
+
+/// A sheet filed record by record settles like the same sheet laid out at once.
+#[test]
+fn filed_sheet_settles() {
+    let mut rng = quiet();
+    let sheet = wind(2_000_000, 900_000, 1_500_000, 350_001);
+    let mut archive = vec![0; RECORD * 12];
+    fresh(&mut archive);
+    assert_eq!(append(&mut archive, 0, &plant_record(&sheet, &mut rng, true)), 0);
+    assert_eq!(append(&mut archive, 1, &measure_record(&sheet.measures[0], &mut rng, true)), 0);
+    for at in 0..4 {
+        assert_eq!(append(&mut archive, 2, &before_record(&sheet.measures[0].before[at], &mut rng, true)), 0);
+        if at < 3 {
+            assert_eq!(append(&mut archive, 1, &point_record(&sheet.curve[at], &mut rng, true)), 0);
+        }
+    }
+    assert_eq!(append(&mut archive, 2, &quarter_record(&sheet.measures[0].quarters[0], &mut rng, true)), 0);
+    let mut list = [0; 1];
+    let answer = settle(&archive, 1, 1, &mut list);
+    assert_eq!((answer, list), (Answer { number: 0, count: 1, total: 249_999, links: 10 }, [249_999]));
+    assert_eq!(audit(&archive), 0);
+}
