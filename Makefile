@@ -1,9 +1,9 @@
-# make run      build the library and settle the example archive from C
+# make run      build the program and settle the example archive
 # make test     the whole gate: comparisons with the outside program, then every proof from nothing
 # make lib      libsandegmur.a and its header in target/lib, proved first
 # make compare  200,000 generated calls against the outside program (CALLS=, SEED=)
 # make bench    times beside the outside program's, as ratios
-.PHONY: run test lib example check-c compare bench
+.PHONY: run test program lib example check-c check-program compare bench
 
 LIB := target/lib
 CFLAGS := -std=c99 -Wall -Wextra -Werror -pedantic -O2
@@ -11,11 +11,14 @@ SEED ?= 1
 CALLS ?= 200000
 CARGO := cd reference && SANDEGMUR_LIB=$(CURDIR)/$(LIB) CARGO_TARGET_DIR=$(CURDIR)/target/reference cargo
 
-run: example
-	$(LIB)/example
+run: program
+	target/bin/sandegmur < crates/sandegmur/stdin
 
 test:
 	.ci/run
+
+program:
+	rt check sandegmur
 
 lib:
 	rt staticlib host
@@ -34,6 +37,10 @@ check-c: example
 	  $(LIB)/test-$$compiler || exit 1; \
 	done
 	if command -v valgrind > /dev/null; then valgrind -q --error-exitcode=1 $(LIB)/test-gcc; fi
+
+check-program: program
+	$(CARGO) build -q --release --bin emit
+	tests/program.sh target/bin/sandegmur target/reference/release 400
 
 compare: lib
 	$(CARGO) run -q --release --features compare --bin compare -- $(SEED) $(CALLS)

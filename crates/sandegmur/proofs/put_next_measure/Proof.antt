@@ -1,0 +1,78 @@
+-- `sandegmur::put_next_measure` meets its contract.
+use native.Mathlib.Omega.{arith}
+use borrow.Author.Needs.{sfits-of, needs}
+use lib.IntN.{ℤ}
+use Rattle.rules.specs.Output.{textOf, measureLine}
+use Rattle.text.proofs.Laws.{writes-held}
+use Rattle.report.proofs.Laws.{given-advances, refused-advances}
+use Rattle.sandegmur.proofs.Steps.{was-given, was-refused, advances-kept}
+use Rattle.sandegmur.proofs.put_next_measure.Statement.{statement}
+use Rattle.sandegmur.proofs.put_next_measure.Tie as tie
+
+settle-requires : tie.Need-settle-requires
+settle-requires c κs = search needs
+
+enum-known-count : tie.Need-enum-known-count
+enum-known-count c = search needs
+
+put-measure-requires : tie.Need-put-measure-requires
+put-measure-requires c κs = search needs
+
+after-measure-requires : tie.Need-after-measure-requires
+after-measure-requires c κs = let f = c .before .before .before .before .before .before .before .before .before .before .before .before .before .pre .0 in omega (arith, f .low, f .plant-low, f .measure-low)
+
+enum-known-number : tie.Need-enum-known-number
+enum-known-number c = search needs
+
+put-refused-requires : tie.Need-put-refused-requires
+put-refused-requires c κs = search needs
+
+after-refusal-requires : tie.Need-after-refusal-requires
+after-refusal-requires c κs = let f = c .before .before .before .before .before .before .before .before .before .before .before .before .pre .0 in omega (arith, f .low, f .plant-low, f .measure-low)
+
+same-length : tie.Need-same-length
+same-length c = search needs
+
+same-length-2 : tie.Need-same-length-2
+same-length-2 c = search needs
+
+returns : tie.Need-returns
+returns c =
+    let b = c .before .before .before .before .before .before .before .before .before .before .before .before .before .before in let a = b .args in let s = c .before .before .before .before .before .before .before .before .before .before .settle in let m = c .before .before .before .put-measure in let x = c .before .before .before .before .before .before .before .count .given in
+    let g = was-given (a .archive .now) (a .cursor .p) (a .cursor .k) (a .list .now) (s .last .1 .1 .1 .0) (s .result) (s .ensures) (b .pre .0 .size) _ _ _ (x .1) in
+    given-advances (a .archive .now) (a .cursor) (a .list .now) (b .pre .0) (b .pre .1) (b .pre .2) _ _ (m .result) (omega arith) (m .ensures .1)
+    (g .settlement) (g .is) _ _ _ (s .last .1 .1 .1 .0) (g .count-is) (g .total-is) (g .links-are) (g .leaves) (c .after-measure .result) (s .kept .1 .1 .1 .0)
+    (writes-held (λ (z : ℤ). textOf (measureLine (a .cursor .p) (a .cursor .k) (x .0 .0) z (x .0 .1 .1 .0))) (x .0 .1 .0 .0) (sfits-of (c .before .before .before .before .struct-told .given .0 .1)) (m .ensures .0))
+    (c .after-measure .ensures)
+
+same-length-3 : tie.Need-same-length-3
+same-length-3 c = search needs
+
+same-length-4 : tie.Need-same-length-4
+same-length-4 c = search needs
+
+returns-2 : tie.Need-returns-2
+returns-2 c =
+    let b = c .before .before .before .before .before .before .before .before .before .before .before .before .before in let a = b .args in let s = c .before .before .before .before .before .before .before .before .before .settle in let m = c .before .before .before .put-refused in let x = c .before .before .before .before .before .before .number .given in
+    let g = was-refused (a .archive .now) (a .cursor .p) (a .cursor .k) (a .list .now) (s .last .1 .1 .1 .0) (s .result) (s .ensures) (b .pre .0 .size) _ (x .1) in
+    advances-kept (g .kept)
+    (refused-advances (a .archive .now) (a .cursor) (a .list .now) (b .pre .0) (b .pre .1) (b .pre .2) _ _ (m .result) (omega arith) (m .ensures .1) _
+    (c .after-refusal .result) (g .is) (m .ensures .0) (c .after-refusal .ensures))
+
+pub put-next-measure-spec : {M : Type 1} → statement M
+put-next-measure-spec =
+    tie.close
+    (tie.spec
+    settle-requires
+    enum-known-count
+    put-measure-requires
+    after-measure-requires
+    enum-known-number
+    put-refused-requires
+    after-refusal-requires
+    same-length
+    same-length-2
+    returns
+    same-length-3
+    same-length-4
+    returns-2)
