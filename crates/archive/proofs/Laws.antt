@@ -218,13 +218,6 @@ module _ (archive : List ℕ) (used kind missing place holder l : ℕ) where
               below = omega arith;
             }
 
-    pub unreached : (n : ℕ) → answer ≡ reach.Refused n → atPlace archive used kind missing place holder l ≡ refused n
-    unreached n t = go (atPlace archive used kind missing place holder l) a
-      where
-        go : (o : Outcome Entry) → answer ≡ reachAnswer place o → o ≡ refused n
-        go (refused k) b = cc
-        go (given e) b = let z : _≡_ {A = ℕ} 0 1 = cc in absurd (omega arith)
-
 -- ---- to the end
 
 -- the answer of a walk that has followed so many links and stands before the link at this place
@@ -277,13 +270,6 @@ module _ (place : ℕ) (o : Outcome (List Entry)) where
         go : (x : Outcome (List Entry)) → o ≡ x → answer ≡ endAnswer place x → Ended last links
         go (refused k) f b = let z : _≡_ {A = ℕ} 0 1 = cc in absurd (omega arith)
         go (given es) f b = record { entries = es; is = f; stands = cc; counted = cc }
-
-    pub unended : (n : ℕ) → answer ≡ chainEnd.Refused n → o ≡ refused n
-    unended n t = go o a
-      where
-        go : (x : Outcome (List Entry)) → answer ≡ endAnswer place x → x ≡ refused n
-        go (refused k) b = cc
-        go (given es) b = let z : _≡_ {A = ℕ} 0 1 = cc in absurd (omega arith)
 
 -- ---- show
 

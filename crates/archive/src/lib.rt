@@ -2,10 +2,11 @@
 ghost use mathlib.Core.Path.{_≡_};
 ghost use Prim.Native.Nat.{_+_, _*_, _^_, _≤_, _<_};
 ghost use lib.ListN.{length};
-ghost use Rattle.rules.specs.Archive.{linkAt, recordAt, kindOf, isWhole, isText, usedOf, follow, atPlace, chain};
+ghost use Rattle.rules.specs.Archive.{linkAt, fieldAt, recordAt, kindOf, isWhole, isText, usedOf, follow, atPlace, chain};
 ghost use Rattle.rules.specs.Promises.{Shows};
 ghost use Rattle.archive.specs.Answers.{headAnswer, linkAnswer, reachAnswer, endAnswer, refusalOf};
 use rules::refusal;
+use units::Watt;
 
 // ---- a record's fields
 
@@ -26,6 +27,14 @@ pub fn link_at(r: &[u8], at: usize) -> u64
     let c = wide(r[at + 2]);
     let d = wide(r[at + 3]);
     a + 256 * b + 65536 * c + 16777216 * d
+}
+
+// A signed field of four bytes: a power.
+pub fn watt_at(r: &[u8], at: usize) -> Watt
+    requires { ⌜ at + 4 ≤ length (now r) ⌝ }
+    ensures { λ w. ⌜ w .0 ≡ fieldAt (now (r .entry)) at ⌝ }
+{
+    units::watt_of(link_at(r, at))
 }
 
 // Byte 0 of a record.

@@ -33,7 +33,7 @@ fn measured_of(r: &[u8]) -> Watt
     requires { ⌜ length (now r) ≡ 32 ⌝ }
     ensures { λ w. ⌜ w .0 ≡ fieldAt (now (r .entry)) 8 ⌝ }
 {
-    units::watt_of(archive::link_at(r, 8))
+    archive::watt_at(r, 8)
 }
 
 // The word of a speed or an irradiance.

@@ -85,13 +85,3 @@ module _ (s : Direction) (d : ℕ) (ms : List ℕ) (p : 0 < d) where
 
   pub total-below : (r t i : ℕ) → Running d ms r t i → sum ms / d < 2 ^ 63 → t < 2 ^ 63
   total-below r t i h fits = omega (arith, h .summed, whole d ms p)
-
--- the total fits where each magnitude is at most x × d, for a sheet of at most n quarters
-pub sheet-fits : (d x n : ℕ) (ms : List ℕ) → 0 < d → length ms ≤ n → ((k : ℕ) → getD ms k 0 ≤ x * d) → n * x < 2 ^ 63 → sum ms / d < 2 ^ 63
-sheet-fits d x n ms p short each fits =
-    let below : sum ms ≤ d * (n * x) = omega (arith, at-most ms each, mul-le-mul-right (x * d) short, mul-assoc n x d, mul-comm d (n * x)) in
-    omega (arith, div-le-of-le-mul d below)
-  where
-    at-most : (ms : List ℕ) → ((k : ℕ) → getD ms k 0 ≤ x * d) → sum ms ≤ length ms * (x * d)
-    at-most [] each = omega arith
-    at-most (m ∷ ms) each = omega (arith, each 0, at-most ms (λ k. each (suc k)), suc-mul (length ms) (x * d))

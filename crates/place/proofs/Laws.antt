@@ -191,12 +191,6 @@ module _ (archive : List ℕ) (p k : ℕ) where
             (record { used = place .used; plant = entryAt archive (a .number); measure = entryAt archive (b .number); links = place .links })
         whole a b f g = cc
 
-    pub found-plant : plantAllowed (place .plant .bytes) ≡ true
-    found-plant = parts .plant-allowed
-
-    pub found-measure : measureAllowed (place .plant .bytes) (place .measure .bytes) ≡ true
-    found-measure = parts .measure-allowed
-
     -- links rise, so numbers are no smaller than the links followed to them
     pub found-rises : place .plant .number < place .measure .number
     found-rises = let m = parts .measure-reached in omega arith

@@ -40,7 +40,7 @@ fn power_of(r: &[u8], at: usize) -> Power
     requires { ⌜ at + 4 ≤ length (now r) ⌝ }
     ensures { λ p. ⌜ RaisedFrom (fieldAt (now (r .entry)) at) p ⌝ }
 {
-    let power = units::watt_of(archive::link_at(r, at));
+    let power = archive::watt_at(r, at);
     if !units::in_power_range(power) {
         return Power::OutOfRange;
     }

@@ -1,39 +1,32 @@
 -- `quarters::exact::power_of` meets its contract. Assumes nothing.
-use mathlib.Core.Path.{sym, _∙_, ap}
+use mathlib.Core.Path.{sym, _∙_}
 use borrow.Author.Tests.{not-false}
-use Rattle.rules.specs.Archive.{twos, fieldAt}
 use Rattle.rules.specs.Terms.{isPower}
 use Rattle.quarters.proofs.Exacts.{out-of-range, in-range}
 use borrow.Author.Needs.{needs}
 use Rattle.quarters.proofs.exact.power_of.Statement.{statement}
 use Rattle.quarters.proofs.exact.power_of.Tie as tie
 
-link-at-requires : tie.Need-link-at-requires
-link-at-requires c κs = search needs
-
-watt-of-requires : tie.Need-watt-of-requires
-watt-of-requires c κs = search needs
+watt-at-requires : tie.Need-watt-at-requires
+watt-at-requires c κs = search needs
 
 in-power-range-requires : tie.Need-in-power-range-requires
 in-power-range-requires c κs = search needs
 
 returns : tie.Need-returns
-unfolding fieldAt
-returns c = out-of-range isPower (c .before .in-power-range .ensures) (c .before .before .watt-of .ensures ∙ ap twos (c .before .before .before .link-at .ensures .0)) (c .if1 .taken)
+returns c = out-of-range isPower (c .before .in-power-range .ensures) (c .before .before .watt-at .ensures) (c .if1 .taken)
 
 raised-requires : tie.Need-raised-requires
 raised-requires c κs = sym (c .before .in-power-range .ensures) ∙ not-false _ (c .if1 .left)
 
 returns-2 : tie.Need-returns-2
-unfolding fieldAt
-returns-2 c = (in-range isPower (c .before .before .in-power-range .ensures) (c .before .before .before .watt-of .ensures ∙ ap twos (c .before .before .before .before .link-at .ensures .0)) (c .before .if1 .left), sym (c .before .before .before .watt-of .ensures ∙ ap twos (c .before .before .before .before .link-at .ensures .0)) ∙ c .raised .ensures .0, c .raised .ensures .1)
+returns-2 c = (in-range isPower (c .before .before .in-power-range .ensures) (c .before .before .before .watt-at .ensures) (c .before .if1 .left), sym (c .before .before .before .watt-at .ensures) ∙ c .raised .ensures .0, c .raised .ensures .1)
 
 pub power-of-spec : {M : Type 1} → statement M
 power-of-spec =
     tie.close
     (tie.spec
-    link-at-requires
-    watt-of-requires
+    watt-at-requires
     in-power-range-requires
     returns
     raised-requires
