@@ -1,0 +1,16 @@
+#!/usr/bin/env bash
+# The example archives: the program's output on each, and that examples/make.py writes the same bytes. Argument: the program.
+set -euo pipefail
+program=$1
+examples=$(cd "$(dirname "$0")/../examples" && pwd)
+made=$(mktemp -d)
+trap 'rm -rf "$made"' EXIT
+python3 "$examples/make.py" "$made"
+count=0
+for archive in "$examples"/*.archive; do
+  cmp "$archive" "$made/$(basename "$archive")"
+  "$program" < "$archive" | cmp - "${archive%.archive}.expected" || { echo "differs: $archive" >&2; exit 1; }
+  count=$((count + 1))
+done
+[ "$count" = "$(find "$made" -name '*.archive' | wc -l)" ] || { echo "examples/make.py makes another number of archives" >&2; exit 1; }
+echo "$count example archives: no difference"
