@@ -1,4 +1,4 @@
-//! With the feature `compare`, links libsandegmur.a from SANDEGMUR_LIB into the two programs that call it.
+//! With the feature `compare`, links libsandegmur.a from SANDEGMUR_LIB into the programs that call it.
 
 use std::env;
 use std::path::Path;
@@ -10,12 +10,12 @@ fn main() {
         return;
     }
     let Some(directory) = env::var_os("SANDEGMUR_LIB") else {
-        println!("cargo:warning=SANDEGMUR_LIB is not set; compare and bench will not link");
+        println!("cargo:warning=SANDEGMUR_LIB is not set; compare, bench and ask will not link");
         return;
     };
     let library = Path::new(&directory).join("libsandegmur.a");
     println!("cargo:rerun-if-changed={}", library.display());
-    for program in ["compare", "bench"] {
+    for program in ["compare", "bench", "ask"] {
         println!("cargo:rustc-link-arg-bin={program}={}", library.display());
         // A Rust library brings its own copy of shared pieces such as the panic handler.
         println!("cargo:rustc-link-arg-bin={program}=-Wl,--allow-multiple-definition");

@@ -1,0 +1,1132 @@
+//! Reader of redispatch archives: settle, show, fresh, append, audit and the program.
+//! Written from docs/FORMAT.md and docs/RULES.md alone ("F" and "R" below, with section numbers).
+//!
+//! Build: rustc -O --edition 2021 reader.rs
+//! Standard input: cases, one after the other. Standard output: one line for each case.
+//! `reader --self-test` runs the worked examples of both pages instead.
+
+use std::io::{self, Read, Write};
+
+/// A refusal number of F 5.
+type Refusal = u32;
+
+const RECORD: usize = 32;
+const MOST_RECORDS: usize = 65_535;
+const PROGRAM_MOST_BYTES: usize = 65_536;
+
+// Kinds of records (F 3).
+const PLANT: u8 = 1;
+const CURVE_POINT: u8 = 2;
+const MEASURE: u8 = 3;
+const BEFORE_QUARTER: u8 = 4;
+const QUARTER: u8 = 5;
+
+// Places of links within a record (F 4).
+const HEAD: usize = 0;
+const USED: usize = 4;
+const NEXT: usize = 4;
+const FIRST: usize = 8;
+const SECOND: usize = 12;
+
+// Technologies, variants, directions; execution 1.
+const WIND: u8 = 1;
+const SOLAR: u8 = 2;
+const OTHER: u8 = 3;
+const SPITZ: u8 = 1;
+const PAUSCHAL: u8 = 2;
+const POSITIVE: u8 = 1;
+const NEGATIVE: u8 = 2;
+const REQUESTED: u8 = 1;
+
+const MOST_BEFORE_QUARTERS: usize = 96;
+const MOST_QUARTERS: usize = 2_976;
+const MOST_POWER: i32 = 1_000_000_000;
+const MOST_SPEED: i32 = 1_000;
+const MOST_IRRADIANCE: i32 = 2_000;
+
+// ---------------------------------------------------------------- bytes and links (F 1, 2, 4)
+
+fn unsigned(bytes: &[u8], at: usize) -> u32 {
+    u32::from_le_bytes(bytes[at..at + 4].try_into().unwrap())
+}
+
+fn signed(bytes: &[u8], at: usize) -> i32 {
+    unsigned(bytes, at) as i32
+}
+
+/// An archive that has passed the head test.
+#[derive(Clone, Copy)]
+struct Archive<'a> {
+    bytes: &'a [u8],
+    used: usize,
+}
+
+fn length_allowed(length: usize) -> bool {
+    length % RECORD == 0 && length != 0 && length <= RECORD * MOST_RECORDS
+}
+
+impl<'a> Archive<'a> {
+    /// The head test: refusal 1.
+    fn open(bytes: &'a [u8]) -> Result<Self, Refusal> {
+        if !length_allowed(bytes.len()) || &bytes[..4] != b"AARB" {
+            return Err(1);
+        }
+        let used = unsigned(bytes, USED) as usize;
+        if used == 0 || used > bytes.len() / RECORD {
+            return Err(1);
+        }
+        Ok(Archive { bytes, used })
+    }
+
+    fn record(&self, number: usize) -> &'a [u8] {
+        &self.bytes[RECORD * number..RECORD * (number + 1)]
+    }
+
+    fn link(&self, holder: usize, at: usize) -> usize {
+        unsigned(self.record(holder), at) as usize
+    }
+
+    /// Follows a link that is not zero: 2, then 3.
+    fn follow(&self, holder: usize, link: usize, kind: u8) -> Result<usize, Refusal> {
+        if link <= holder || link >= self.used {
+            return Err(2);
+        }
+        if self.record(link)[0] != kind {
+            return Err(3);
+        }
+        Ok(link)
+    }
+
+    /// The n-th record of a chain, counted from 1. Its own next link is not read.
+    fn place(&self, n: u64, missing: Refusal, owner: usize, first: usize, kind: u8) -> Result<usize, Refusal> {
+        if n == 0 {
+            return Err(missing);
+        }
+        let (mut left, mut holder, mut at) = (n, owner, first);
+        loop {
+            let link = self.link(holder, at);
+            if link == 0 {
+                return Err(missing);
+            }
+            holder = self.follow(holder, link, kind)?;
+            at = NEXT;
+            left -= 1;
+            if left == 0 {
+                return Ok(holder);
+            }
+        }
+    }
+
+    /// All records of a chain, to its end.
+    fn chain(&self, owner: usize, first: usize, kind: u8) -> Result<Vec<usize>, Refusal> {
+        let mut numbers = Vec::new();
+        let (mut holder, mut at) = (owner, first);
+        loop {
+            let link = self.link(holder, at);
+            if link == 0 {
+                return Ok(numbers);
+            }
+            holder = self.follow(holder, link, kind)?;
+            at = NEXT;
+            numbers.push(holder);
+        }
+    }
+}
+
+// ---------------------------------------------------------------- settle (F 6, R 1 to 6)
+
+struct Settled {
+    amounts: Vec<i64>,
+    total: i64,
+    links: u64,
+}
+
+/// A signed four-byte field that must lie within low to high: else 9.
+fn field(record: &[u8], at: usize, low: i32, high: i32) -> Result<i128, Refusal> {
+    let value = signed(record, at);
+    if value < low || value > high {
+        return Err(9);
+    }
+    Ok(value as i128)
+}
+
+fn power(record: &[u8], at: usize) -> Result<i128, Refusal> {
+    field(record, at, -MOST_POWER, MOST_POWER)
+}
+
+fn measured(record: &[u8]) -> Result<i128, Refusal> {
+    power(record, 8)
+}
+
+fn speed(record: &[u8]) -> Result<i128, Refusal> {
+    field(record, 16, 0, MOST_SPEED)
+}
+
+fn irradiance(record: &[u8]) -> Result<i128, Refusal> {
+    field(record, 16, 0, MOST_IRRADIANCE)
+}
+
+/// The power curve at speed v, rounded down (R 3). Points are (speed, power), speeds rising.
+fn curve_power(curve: &[(i128, i128)], v: i128) -> i128 {
+    let after = curve.partition_point(|&(u, _)| u <= v);
+    if after == 0 {
+        return 0;
+    }
+    let (u, p) = curve[after - 1];
+    if u == v {
+        return p;
+    }
+    if after == curve.len() {
+        return 0;
+    }
+    let (w, q) = curve[after];
+    (p * (w - v) + q * (v - u)) / (w - u)
+}
+
+/// The curve of a wind Spitz plant: step 6.
+fn read_curve(archive: &Archive, plant: usize) -> Result<Vec<(i128, i128)>, Refusal> {
+    let mut curve = Vec::new();
+    for number in archive.chain(plant, FIRST, CURVE_POINT)? {
+        let point = archive.record(number);
+        curve.push((field(point, 8, 0, MOST_SPEED)?, field(point, 12, 0, MOST_POWER)?));
+    }
+    if curve.len() < 2 || curve.windows(2).any(|pair| pair[1].0 <= pair[0].0) {
+        return Err(10);
+    }
+    Ok(curve)
+}
+
+/// What the before-quarters give: sums A and B in wind and solar Spitz, P0 (as a) in Pauschal.
+#[derive(Default)]
+struct Before {
+    count: usize,
+    a: i128,
+    b: i128,
+}
+
+/// Step 7, for the four pairings that use before-quarters.
+fn read_before(
+    archive: &Archive,
+    measure: usize,
+    pairing: (u8, u8),
+    pn: i128,
+    curve: &[(i128, i128)],
+) -> Result<Before, Refusal> {
+    let chain = archive.chain(measure, FIRST, BEFORE_QUARTER)?;
+    if chain.len() > MOST_BEFORE_QUARTERS {
+        return Err(8);
+    }
+    let records: Vec<&[u8]> = chain.iter().map(|&n| archive.record(n)).collect();
+    if records.iter().any(|record| record[1] > 1) {
+        return Err(9);
+    }
+    // How many usable ones are taken, and how many are too few.
+    let (most, fewest) = match pairing {
+        (WIND, SPITZ) => (4, 4),
+        (SOLAR, SPITZ) => (usize::MAX, 1),
+        _ => (1, 1),
+    };
+    let mut before = Before { count: chain.len(), ..Before::default() };
+    let mut usable = 0;
+    for record in records.iter().filter(|record| record[1] == 1) {
+        if usable == most {
+            break;
+        }
+        let reading = measured(record)?;
+        if pairing == (WIND, SPITZ) {
+            if 10 * reading < pn {
+                continue;
+            }
+            before.b += curve_power(curve, speed(record)?);
+        }
+        if pairing == (SOLAR, SPITZ) {
+            before.b += irradiance(record)?;
+        }
+        before.a += reading;
+        usable += 1;
+    }
+    if usable < fewest {
+        return Err(11);
+    }
+    if pairing.1 == SPITZ && before.b == 0 {
+        return Err(12);
+    }
+    Ok(before)
+}
+
+/// Factor of solar Pauschal in ten-thousandths (R 4).
+fn solar_factor(month: u8, quarter_of_day: u8) -> i128 {
+    if (3..=10).contains(&month) {
+        match quarter_of_day {
+            24..=35 | 60..=75 => 2_456,
+            36..=59 => 6_189,
+            _ => 0,
+        }
+    } else {
+        match quarter_of_day {
+            36..=39 | 56..=66 => 2_796,
+            40..=55 => 5_030,
+            _ => 0,
+        }
+    }
+}
+
+/// Settle without the test of the list (step 9), which the callers make: nothing behind it can be refused.
+fn settle(bytes: &[u8], p: u64, k: u64) -> Result<Settled, Refusal> {
+    // Steps 1 to 3: head, plant, measure.
+    let archive = Archive::open(bytes)?;
+    let plant_number = archive.place(p, 4, HEAD, FIRST, PLANT)?;
+    let measure_number = archive.place(k, 5, plant_number, SECOND, MEASURE)?;
+
+    // Step 4: the plant's fields.
+    let plant = archive.record(plant_number);
+    let (technology, variant) = (plant[1], plant[2]);
+    let pairing = (technology, variant);
+    let pn = signed(plant, 16);
+    if !(WIND..=OTHER).contains(&technology)
+        || !(SPITZ..=PAUSCHAL).contains(&variant)
+        || !(100_000..=MOST_POWER).contains(&pn)
+    {
+        return Err(6);
+    }
+    let pn = pn as i128;
+
+    // Step 5: the measure's fields.
+    let measure = archive.record(measure_number);
+    let (direction, execution) = (measure[1], measure[2]);
+    if !(POSITIVE..=NEGATIVE).contains(&direction)
+        || !(1..=3).contains(&execution)
+        || (direction == POSITIVE && technology != OTHER)
+    {
+        return Err(7);
+    }
+
+    // Steps 6 and 7: curve and before-quarters, where the pairing needs them.
+    let curve = match pairing {
+        (WIND, SPITZ) => read_curve(&archive, plant_number)?,
+        _ => Vec::new(),
+    };
+    let before = match pairing {
+        (SOLAR, PAUSCHAL) | (OTHER, SPITZ) => Before::default(),
+        _ => read_before(&archive, measure_number, pairing, pn, &curve)?,
+    };
+
+    // Step 8: quarters. For each the limitation value L and the numerator N of T = N / D.
+    let chain = archive.chain(measure_number, SECOND, QUARTER)?;
+    if chain.is_empty() || chain.len() > MOST_QUARTERS {
+        return Err(8);
+    }
+    let d = match pairing {
+        (WIND, SPITZ) | (SOLAR, SPITZ) => before.b,
+        (SOLAR, PAUSCHAL) => 10_000,
+        _ => 1,
+    };
+    let mut powers = Vec::with_capacity(chain.len());
+    for &number in &chain {
+        let quarter = archive.record(number);
+        let mut l = measured(quarter)?;
+        if execution == REQUESTED {
+            let limit = power(quarter, 12)?;
+            l = if direction == POSITIVE { l.min(limit) } else { l.max(limit) };
+        }
+        let n = match pairing {
+            (WIND, SPITZ) => (before.a * curve_power(&curve, speed(quarter)?)).min(pn * before.b),
+            (SOLAR, SPITZ) => before.a * irradiance(quarter)?,
+            (SOLAR, PAUSCHAL) => {
+                let (month, quarter_of_day) = (quarter[1], quarter[2]);
+                if !(1..=12).contains(&month) || quarter_of_day > 95 {
+                    return Err(9);
+                }
+                pn * solar_factor(month, quarter_of_day)
+            }
+            (OTHER, SPITZ) => power(quarter, 20)?,
+            _ => before.a,
+        };
+        powers.push((l, n));
+    }
+
+    // Step 10: booking with one remainder (R 5, 6).
+    let e = 4 * d;
+    let mut amounts = Vec::with_capacity(powers.len());
+    let (mut remainder, mut total) = (0, 0);
+    for (l, n) in powers {
+        let m = if direction == POSITIVE { l * d - n } else { n - l * d }.max(0);
+        let x = remainder + m;
+        let whole = x / e;
+        remainder = x - whole * e;
+        let amount = if direction == POSITIVE { -whole } else { whole } as i64;
+        total += amount;
+        amounts.push(amount);
+    }
+    let links = p + k + (curve.len() + before.count + chain.len()) as u64;
+    Ok(Settled { amounts, total, links })
+}
+
+/// Settle from C (F 7).
+fn settle_c(archive: &[u8], p: u64, k: u64, list: &mut [u8], result: &mut [u8]) -> u32 {
+    let settled = match settle(archive, p, k) {
+        Ok(settled) => settled,
+        Err(number) => return number,
+    };
+    let count = settled.amounts.len();
+    if list.len() / 8 < count || result.len() != 24 {
+        return 13;
+    }
+    for (place, amount) in list.chunks_exact_mut(8).zip(&settled.amounts) {
+        place.copy_from_slice(&amount.to_le_bytes());
+    }
+    result[..8].copy_from_slice(&(count as i64).to_le_bytes());
+    result[8..16].copy_from_slice(&settled.total.to_le_bytes());
+    result[16..].copy_from_slice(&(settled.links as i64).to_le_bytes());
+    0
+}
+
+// ---------------------------------------------------------------- show, fresh, append, audit (F 8 to 11)
+
+/// Show from C: where the record starts, or the archive's length for the empty part.
+fn show(bytes: &[u8], number: u64) -> u64 {
+    match Archive::open(bytes) {
+        Ok(archive) if number < archive.used as u64 => RECORD as u64 * number,
+        _ => bytes.len() as u64,
+    }
+}
+
+fn fresh(bytes: &mut [u8]) -> u32 {
+    if !length_allowed(bytes.len()) {
+        return 1;
+    }
+    bytes.fill(0);
+    bytes[..4].copy_from_slice(b"AARB");
+    bytes[USED] = 1;
+    0
+}
+
+/// Tests of append. Gives U and the place (in bytes) of the zero link that ended the walk.
+fn test_append(bytes: &[u8], owner: u64, record: &[u8]) -> Result<(usize, usize), Refusal> {
+    let archive = Archive::open(bytes)?;
+    if record.len() != RECORD {
+        return Err(14);
+    }
+    let kind = record[0];
+    // The owner's kind (none for the head) and the place of its link to the chain.
+    let (owner_kind, first) = match kind {
+        PLANT => (None, FIRST),
+        CURVE_POINT => (Some(PLANT), FIRST),
+        MEASURE => (Some(PLANT), SECOND),
+        BEFORE_QUARTER => (Some(MEASURE), FIRST),
+        QUARTER => (Some(MEASURE), SECOND),
+        _ => return Err(14),
+    };
+    let links_end = if kind == PLANT || kind == MEASURE { 16 } else { 8 };
+    if record[NEXT..links_end].iter().any(|&byte| byte != 0) {
+        return Err(14);
+    }
+    if owner >= archive.used as u64 {
+        return Err(15);
+    }
+    let owner = owner as usize;
+    let fits = match owner_kind {
+        None => owner == HEAD,
+        Some(owner_kind) => owner != HEAD && archive.record(owner)[0] == owner_kind,
+    };
+    if !fits {
+        return Err(15);
+    }
+    let end = match archive.chain(owner, first, kind)?.last() {
+        Some(last) => RECORD * last + NEXT,
+        None => RECORD * owner + first,
+    };
+    if archive.used == bytes.len() / RECORD {
+        return Err(16);
+    }
+    Ok((archive.used, end))
+}
+
+fn append(bytes: &mut [u8], owner: u64, record: &[u8]) -> u32 {
+    let (used, end) = match test_append(bytes, owner, record) {
+        Ok(found) => found,
+        Err(number) => return number,
+    };
+    bytes[RECORD * used..RECORD * (used + 1)].copy_from_slice(record);
+    bytes[end..end + 4].copy_from_slice(&(used as u32).to_le_bytes());
+    bytes[USED..USED + 4].copy_from_slice(&(used as u32 + 1).to_le_bytes());
+    0
+}
+
+fn test_audit(bytes: &[u8]) -> Result<(), Refusal> {
+    let archive = Archive::open(bytes)?;
+    let mut named = vec![0u32; archive.used];
+    let mut test_link = |holder: usize, at: usize, kind: u8| -> Result<(), Refusal> {
+        let link = archive.link(holder, at);
+        if link != 0 {
+            named[archive.follow(holder, link, kind)?] += 1;
+        }
+        Ok(())
+    };
+    test_link(HEAD, FIRST, PLANT)?;
+    for number in 1..archive.used {
+        let kind = archive.record(number)[0];
+        if !(PLANT..=QUARTER).contains(&kind) {
+            return Err(3);
+        }
+        test_link(number, NEXT, kind)?;
+        if kind == PLANT {
+            test_link(number, FIRST, CURVE_POINT)?;
+            test_link(number, SECOND, MEASURE)?;
+        }
+        if kind == MEASURE {
+            test_link(number, FIRST, BEFORE_QUARTER)?;
+            test_link(number, SECOND, QUARTER)?;
+        }
+    }
+    if named[1..].iter().any(|&times| times != 1) {
+        return Err(17);
+    }
+    Ok(())
+}
+
+fn audit(bytes: &[u8]) -> u32 {
+    test_audit(bytes).err().unwrap_or(0)
+}
+
+// ---------------------------------------------------------------- the program (F 12)
+
+fn push_number(line: &mut Vec<u8>, value: i64) {
+    if value < 0 {
+        line.push(b'-');
+    }
+    let mut digits = [0; 20];
+    let mut start = digits.len();
+    let mut rest = value.unsigned_abs();
+    loop {
+        start -= 1;
+        digits[start] = b'0' + (rest % 10) as u8;
+        rest /= 10;
+        if rest == 0 {
+            break;
+        }
+    }
+    line.extend_from_slice(&digits[start..]);
+}
+
+/// Puts a line: a letter, numbers, single spaces, a line feed.
+fn push_line(text: &mut Vec<u8>, letter: u8, numbers: &[i64]) {
+    text.push(letter);
+    for &number in numbers {
+        text.push(b' ');
+        push_number(text, number);
+    }
+    text.push(b'\n');
+}
+
+/// Settles all measures in order; `write` gets the output piece by piece.
+fn program(input: &[u8], write: &mut dyn FnMut(&[u8])) {
+    let mut text = Vec::new();
+    if input.len() > PROGRAM_MOST_BYTES || Archive::open(input).is_err() {
+        push_line(&mut text, b'E', &[0, 0, 1]);
+        write(&text);
+        return;
+    }
+    let (mut p, mut k) = (1u64, 1u64);
+    loop {
+        text.clear();
+        match settle(input, p, k) {
+            Ok(settled) => {
+                let count = settled.amounts.len() as i64;
+                push_line(&mut text, b'M', &[p as i64, k as i64, count, settled.total, settled.links as i64]);
+                for (i, &amount) in (1..).zip(&settled.amounts) {
+                    push_line(&mut text, b'Q', &[i, amount]);
+                }
+                write(&text);
+                k += 1;
+            }
+            Err(4) => return,
+            Err(5) => {
+                p += 1;
+                k = 1;
+            }
+            Err(number) => {
+                push_line(&mut text, b'E', &[p as i64, k as i64, number as i64]);
+                write(&text);
+                if number == 2 || number == 3 {
+                    return;
+                }
+                k += 1;
+            }
+        }
+    }
+}
+
+// ---------------------------------------------------------------- cases
+
+/// FNV-1a, 64 bits, with the number of bytes that went in.
+struct Hash {
+    value: u64,
+    length: u64,
+}
+
+impl Hash {
+    fn new() -> Self {
+        Hash { value: 0xcbf2_9ce4_8422_2325, length: 0 }
+    }
+
+    fn add(&mut self, bytes: &[u8]) {
+        for &byte in bytes {
+            self.value = (self.value ^ byte as u64).wrapping_mul(0x100_0000_01b3);
+        }
+        self.length += bytes.len() as u64;
+    }
+}
+
+fn hash(bytes: &[u8]) -> u64 {
+    let mut hash = Hash::new();
+    hash.add(bytes);
+    hash.value
+}
+
+fn read_u64(input: &mut impl Read) -> io::Result<u64> {
+    let mut bytes = [0; 8];
+    input.read_exact(&mut bytes)?;
+    Ok(u64::from_le_bytes(bytes))
+}
+
+/// A length of four bytes and as many bytes.
+fn read_part(input: &mut impl Read) -> io::Result<Vec<u8>> {
+    let mut length = [0; 4];
+    input.read_exact(&mut length)?;
+    let length = u32::from_le_bytes(length) as u64;
+    let mut part = Vec::new();
+    input.by_ref().take(length).read_to_end(&mut part)?;
+    if part.len() as u64 != length {
+        return Err(io::ErrorKind::UnexpectedEof.into());
+    }
+    Ok(part)
+}
+
+fn run_cases(input: &mut impl Read, output: &mut impl Write) -> io::Result<()> {
+    loop {
+        let mut call = [0; 1];
+        if input.read(&mut call)? == 0 {
+            return Ok(());
+        }
+        let a = read_u64(input)?;
+        let b = read_u64(input)?;
+        let mut list = read_part(input)?;
+        let mut result = read_part(input)?;
+        let mut archive = read_part(input)?;
+        let record = read_part(input)?;
+        match call[0] {
+            1 => {
+                let number = settle_c(&archive, a, b, &mut list, &mut result);
+                writeln!(output, "1 {number} {:016x} {:016x}", hash(&list), hash(&result))?;
+            }
+            2 => writeln!(output, "2 {}", show(&archive, a))?,
+            3 => {
+                let number = fresh(&mut archive);
+                writeln!(output, "3 {number} {:016x}", hash(&archive))?;
+            }
+            4 => {
+                let number = append(&mut archive, a, &record);
+                writeln!(output, "4 {number} {:016x}", hash(&archive))?;
+            }
+            5 => writeln!(output, "5 {}", audit(&archive))?,
+            6 => {
+                let mut printed = Hash::new();
+                program(&archive, &mut |bytes| printed.add(bytes));
+                writeln!(output, "6 {:016x} {}", printed.value, printed.length)?;
+            }
+            other => {
+                return Err(io::Error::new(io::ErrorKind::InvalidData, format!("no call {other}")));
+            }
+        }
+    }
+}
+
+fn main() {
+    if std::env::args().nth(1).as_deref() == Some("--self-test") {
+        std::process::exit(self_test::run());
+    }
+    let mut input = io::BufReader::new(io::stdin().lock());
+    if let Err(error) = run_cases(&mut input, &mut io::stdout().lock()) {
+        eprintln!("reader: {error}");
+        std::process::exit(1);
+    }
+}
+
+// ---------------------------------------------------------------- worked examples of both pages
+
+mod self_test {
+    use super::*;
+
+    /// F 13.
+    const CASE_A: &str = "
+        41 41 52 42 07 00 00 00 01 00 00 00 00 00 00 00 00 00 00 00 00 00 00 00 00 00 00 00 00 00 00 00
+        01 03 02 00 00 00 00 00 00 00 00 00 02 00 00 00 40 42 0f 00 00 00 00 00 00 00 00 00 00 00 00 00
+        03 02 02 00 00 00 00 00 03 00 00 00 04 00 00 00 00 00 00 00 00 00 00 00 00 00 00 00 00 00 00 00
+        04 01 00 00 00 00 00 00 00 35 0c 00 00 00 00 00 00 00 00 00 00 00 00 00 00 00 00 00 00 00 00 00
+        05 07 28 00 05 00 00 00 21 a1 07 00 00 00 00 00 00 00 00 00 00 00 00 00 00 00 00 00 00 00 00 00
+        05 07 28 00 06 00 00 00 21 a1 07 00 00 00 00 00 00 00 00 00 00 00 00 00 00 00 00 00 00 00 00 00
+        05 07 28 00 00 00 00 00 22 a1 07 00 00 00 00 00 00 00 00 00 00 00 00 00 00 00 00 00 00 00 00 00";
+
+    /// F 14.
+    const REFUSED: &str = "
+        41 41 52 42 0b 00 00 00 01 00 00 00 00 00 00 00 00 00 00 00 00 00 00 00 00 00 00 00 00 00 00 00
+        01 02 02 00 00 00 00 00 ff ff ff ff 02 00 00 00 40 42 0f 00 00 00 00 00 00 00 00 00 00 00 00 00
+        03 02 02 00 03 00 00 00 00 00 00 00 00 00 00 00 00 00 00 00 00 00 00 00 00 00 00 00 00 00 00 00
+        03 02 02 00 05 00 00 00 00 00 00 00 04 00 00 00 00 00 00 00 00 00 00 00 00 00 00 00 00 00 00 00
+        05 0d 24 00 00 00 00 00 00 00 00 00 00 00 00 00 00 00 00 00 00 00 00 00 00 00 00 00 00 00 00 00
+        03 02 02 00 07 00 00 00 00 00 00 00 06 00 00 00 00 00 00 00 00 00 00 00 00 00 00 00 00 00 00 00
+        05 07 24 00 00 00 00 00 00 00 00 00 00 00 00 00 00 00 00 00 00 00 00 00 00 00 00 00 00 00 00 00
+        03 02 02 00 09 00 00 00 00 00 00 00 08 00 00 00 00 00 00 00 00 00 00 00 00 00 00 00 00 00 00 00
+        05 07 24 00 08 00 00 00 00 00 00 00 00 00 00 00 00 00 00 00 00 00 00 00 00 00 00 00 00 00 00 00
+        03 02 02 00 00 00 00 00 00 00 00 00 0a 00 00 00 00 00 00 00 00 00 00 00 00 00 00 00 00 00 00 00
+        05 07 25 00 00 00 00 00 00 00 00 00 00 00 00 00 00 00 00 00 00 00 00 00 00 00 00 00 00 00 00 00";
+
+    fn hex(text: &str) -> Vec<u8> {
+        text.split_whitespace().map(|byte| u8::from_str_radix(byte, 16).unwrap()).collect()
+    }
+
+    struct Tests {
+        passed: u32,
+        failed: u32,
+    }
+
+    impl Tests {
+        fn same<T: PartialEq + std::fmt::Debug>(&mut self, name: &str, found: T, expected: T) {
+            if found == expected {
+                self.passed += 1;
+                println!("pass  {name}");
+            } else {
+                self.failed += 1;
+                println!("FAIL  {name}: found {found:?}, expected {expected:?}");
+            }
+        }
+    }
+
+    /// One byte or one four-byte number of a record to be set.
+    #[derive(Clone, Copy)]
+    enum Set {
+        Byte(usize, usize, u8),
+        Number(usize, usize, i64),
+    }
+    use Set::{Byte, Number};
+
+    fn set(bytes: &mut [u8], changes: &[Set]) {
+        for &change in changes {
+            match change {
+                Byte(record, at, value) => bytes[RECORD * record + at] = value,
+                Number(record, at, value) => {
+                    let place = RECORD * record + at;
+                    bytes[place..place + 4].copy_from_slice(&(value as u32).to_le_bytes());
+                }
+            }
+        }
+    }
+
+    fn case_a(changes: &[Set]) -> Vec<u8> {
+        let mut bytes = hex(CASE_A);
+        set(&mut bytes, changes);
+        bytes
+    }
+
+    fn one_more(mut bytes: Vec<u8>) -> Vec<u8> {
+        bytes.extend([0; RECORD]);
+        bytes
+    }
+
+    fn number(bytes: &[u8], p: u64, k: u64) -> u32 {
+        settle(bytes, p, k).err().unwrap_or(0)
+    }
+
+    /// Number, count, total, links; zeros if refused.
+    fn results(bytes: &[u8], p: u64, k: u64) -> (u32, usize, i64, u64) {
+        match settle(bytes, p, k) {
+            Ok(settled) => (0, settled.amounts.len(), settled.total, settled.links),
+            Err(number) => (number, 0, 0, 0),
+        }
+    }
+
+    fn amounts(bytes: &[u8]) -> Vec<i64> {
+        settle(bytes, 1, 1).map(|settled| settled.amounts).unwrap_or_default()
+    }
+
+    /// Settle from C on a list and a result part full of ee.
+    fn from_c(bytes: &[u8], list_length: usize, result_length: usize) -> (u32, Vec<u8>, Vec<u8>) {
+        let (mut list, mut result) = (vec![0xee; list_length], vec![0xee; result_length]);
+        let number = settle_c(bytes, 1, 1, &mut list, &mut result);
+        (number, list, result)
+    }
+
+    fn printed(bytes: &[u8]) -> String {
+        let mut text = Vec::new();
+        program(bytes, &mut |piece| text.extend_from_slice(piece));
+        String::from_utf8(text).unwrap()
+    }
+
+    /// A record with kind, bytes 1 and 2, and numbers at places.
+    fn record(kind: u8, byte1: u8, byte2: u8, numbers: &[(usize, i64)]) -> Vec<u8> {
+        let mut bytes = vec![0; RECORD];
+        bytes[..3].copy_from_slice(&[kind, byte1, byte2]);
+        for &(at, value) in numbers {
+            set(&mut bytes, &[Number(0, at, value)]);
+        }
+        bytes
+    }
+
+    fn before_quarter(measured: i64, weather: i64) -> Vec<u8> {
+        record(BEFORE_QUARTER, 1, 0, &[(8, measured), (16, weather)])
+    }
+
+    fn quarter(measured: i64, limit: i64, weather: i64, planned: i64) -> Vec<u8> {
+        record(QUARTER, 0, 0, &[(8, measured), (12, limit), (16, weather), (20, planned)])
+    }
+
+    fn solar_quarter(month: u8, quarter_of_day: u8) -> Vec<u8> {
+        record(QUARTER, month, quarter_of_day, &[])
+    }
+
+    /// An archive with plant 1, measure 2 and the given curve points, before-quarters and quarters, filed with append.
+    fn filed(plant: (u8, u8, i64), measure: (u8, u8), parts: &[Vec<u8>]) -> Vec<u8> {
+        let mut bytes = vec![0xdd; RECORD * (3 + parts.len())];
+        let mut numbers = vec![fresh(&mut bytes)];
+        numbers.push(append(&mut bytes, 0, &record(PLANT, plant.0, plant.1, &[(16, plant.2)])));
+        numbers.push(append(&mut bytes, 1, &record(MEASURE, measure.0, measure.1, &[])));
+        for part in parts {
+            let owner = if part[0] == CURVE_POINT { 1 } else { 2 };
+            numbers.push(append(&mut bytes, owner, part));
+        }
+        assert!(numbers.iter().all(|&number| number == 0) && audit(&bytes) == 0);
+        bytes
+    }
+
+    /// Wind Spitz, tolerated, with a curve on which speed 10 x i has 500,000 x i W, i from 0 to 4.
+    fn wind(pn: i64, before: &[Vec<u8>], quarters: &[Vec<u8>]) -> Vec<u8> {
+        let mut parts: Vec<Vec<u8>> =
+            (0..=4).map(|i| record(CURVE_POINT, 0, 0, &[(8, 10 * i), (12, 500_000 * i)])).collect();
+        parts.extend_from_slice(before);
+        parts.extend_from_slice(quarters);
+        filed((WIND, SPITZ, pn), (NEGATIVE, 2), &parts)
+    }
+
+    fn section_13(tests: &mut Tests) {
+        let bytes = hex(CASE_A);
+        tests.same("F 13 settle", results(&bytes, 1, 1), (0, 3, 224_999, 6));
+        tests.same("F 13 amounts", amounts(&bytes), vec![74_999, 75_000, 75_000]);
+        tests.same("F 13 program", printed(&bytes), "M 1 1 3 224999 6\nQ 1 74999\nQ 2 75000\nQ 3 75000\n".into());
+        let list = hex("f7 24 01 00 00 00 00 00   f8 24 01 00 00 00 00 00   f8 24 01 00 00 00 00 00");
+        let result = hex("03 00 00 00 00 00 00 00   e7 6e 03 00 00 00 00 00   06 00 00 00 00 00 00 00");
+        tests.same("F 13 bytes from C", from_c(&bytes, 24, 24), (0, list, result));
+
+        let new = quarter(500_003, 0, 0, 0);
+        let mut full = bytes.clone();
+        tests.same("F 13 append, full", (append(&mut full, 2, &new), full), (16, bytes.clone()));
+        let mut longer = one_more(bytes.clone());
+        let mut expected = bytes;
+        expected.extend_from_slice(&new);
+        set(&mut expected, &[Number(6, 4, 7), Number(0, 4, 8)]);
+        tests.same("F 13 append", (append(&mut longer, 2, &new), longer), (0, expected));
+    }
+
+    fn section_14(tests: &mut Tests) {
+        let bytes = hex(REFUSED);
+        let text = "E 1 1 8\nE 1 2 9\nM 1 3 1 154725 5\nQ 1 154725\nE 1 4 2\n";
+        tests.same("F 14 program", printed(&bytes), text.into());
+        tests.same("F 14 k = 5", results(&bytes, 1, 5), (0, 1, 154_725, 7));
+        tests.same("F 14 k = 6, p = 2", [number(&bytes, 1, 6), number(&bytes, 2, 1)], [5, 4]);
+        tests.same("F 14 audit", audit(&bytes), 2);
+        for (owner, expected) in [(7, 2), (9, 16)] {
+            let mut later = bytes.clone();
+            let number = append(&mut later, owner, &quarter(0, 0, 0, 0));
+            tests.same(&format!("F 14 append, owner {owner}"), (number, later), (expected, bytes.clone()));
+        }
+    }
+
+    fn section_15(tests: &mut Tests) {
+        tests.same("F 15 cut to 33 bytes", number(&hex(CASE_A)[..33], 1, 1), 1);
+
+        let mut bytes = case_a(&[Number(0, 4, 8)]);
+        let found = [number(&bytes, 1, 1), audit(&bytes), append(&mut bytes, 2, &quarter(0, 0, 0, 0))];
+        tests.same("F 15 r0[4] = 8", found, [1, 1, 1]);
+        tests.same("F 15 r0[4] = 8, show", (0..8).map(|n| show(&bytes, n)).collect(), vec![224; 8]);
+
+        let all = u64::MAX;
+        let rows: &[(&str, &[Set], u64, u64, u32)] = &[
+            ("r0[4] = 6", &[Number(0, 4, 6)], 1, 1, 2),
+            ("r0[8] = 7", &[Number(0, 8, 7)], 1, 1, 2),
+            ("r0[8] = 7, p = 0", &[Number(0, 8, 7)], 0, 1, 4),
+            ("p = 2", &[], 2, 1, 4),
+            ("p largest", &[], all, 1, 4),
+            ("r1[4] = 1, p = 2", &[Number(1, 4, 1)], 2, 1, 2),
+            ("r1[4] = 1, p largest", &[Number(1, 4, 1)], all, 1, 2),
+            ("r1[4] = 2, p = 2", &[Number(1, 4, 2)], 2, 1, 3),
+            ("r1[4] = 1", &[Number(1, 4, 1)], 1, 1, 0),
+            ("k = 2", &[], 1, 2, 5),
+            ("k = 0", &[], 1, 0, 5),
+            ("r1[12] = 1, k = 0", &[Number(1, 12, 1)], 1, 0, 5),
+            ("r1[12] = 0, technology 4", &[Number(1, 12, 0), Byte(1, 1, 4)], 1, 1, 5),
+            ("technology 4, direction 3", &[Byte(1, 1, 4), Byte(2, 1, 3)], 1, 1, 6),
+            ("r1[16] = 99,999", &[Number(1, 16, 99_999)], 1, 1, 6),
+            ("direction 3", &[Byte(2, 1, 3)], 1, 1, 7),
+            ("direction 1", &[Byte(2, 1, 1)], 1, 1, 0),
+            ("r2[8] = 0", &[Number(2, 8, 0)], 1, 1, 11),
+            ("mark 0", &[Byte(3, 1, 0)], 1, 1, 11),
+            ("mark 2", &[Byte(3, 1, 2)], 1, 1, 9),
+            ("mark 0, r3[4] = 3", &[Byte(3, 1, 0), Number(3, 4, 3)], 1, 1, 2),
+            ("r3[16] = -1", &[Number(3, 16, -1)], 1, 1, 0),
+            ("r3[8] = 1,000,000,001", &[Number(3, 8, 1_000_000_001)], 1, 1, 9),
+            ("r2[12] = 0", &[Number(2, 12, 0)], 1, 1, 8),
+            ("r2[12] = 2", &[Number(2, 12, 2)], 1, 1, 2),
+            ("r2[12] = 3", &[Number(2, 12, 3)], 1, 1, 3),
+            ("r5[4] = 5", &[Number(5, 4, 5)], 1, 1, 2),
+            ("r5[4] = 4", &[Number(5, 4, 4)], 1, 1, 2),
+            ("month 13", &[Byte(4, 1, 13)], 1, 1, 0),
+            ("limit, execution 3", &[Number(4, 12, 1_000_000_001), Byte(2, 2, 3)], 1, 1, 0),
+            ("limit, execution 1", &[Number(4, 12, 1_000_000_001), Byte(2, 2, 1)], 1, 1, 9),
+            // F 6: places are not cut to 32 bits; p = 0 comes before k = 0.
+            ("p = 4,294,967,297", &[], 4_294_967_297, 1, 4),
+            ("p = 0, k = 0", &[], 0, 0, 4),
+        ];
+        for &(name, changes, p, k, expected) in rows {
+            tests.same(&format!("F 15 {name}"), number(&case_a(changes), p, k), expected);
+        }
+        tests.same("F 15 direction 1, amounts", amounts(&case_a(&[Byte(2, 1, 1)])), vec![0, 0, 0]);
+
+        let bytes = hex(CASE_A);
+        let untouched = |number: u32, list: usize, result: usize| (number, vec![0xee; list], vec![0xee; result]);
+        for (list, result) in [(16, 24), (23, 24), (24, 23), (24, 25), (23, 25)] {
+            let name = format!("F 15 C: list of {list}, result of {result}");
+            tests.same(&name, from_c(&bytes, list, result), untouched(13, list, result));
+        }
+        let (_, mut list, result) = from_c(&bytes, 24, 24);
+        list.extend([0xee; 5]);
+        tests.same("F 15 C: list of 29", from_c(&bytes, 29, 24), (0, list, result));
+        let bad = case_a(&[Number(4, 8, 1_000_000_001)]);
+        tests.same("F 15 C: 9 before 13", from_c(&bad, 0, 0), untouched(9, 0, 0));
+
+        tests.same("F 15 audit", audit(&bytes), 0);
+        tests.same("F 15 audit, +1", audit(&one_more(bytes)), 0);
+        tests.same("F 15 audit, r2[12] = 0", audit(&case_a(&[Number(2, 12, 0)])), 17);
+        tests.same("F 15 audit, r1[4] = 1", audit(&case_a(&[Number(1, 4, 1), Byte(3, 0, 9)])), 2);
+        tests.same("F 15 audit, r4[4] = 4", audit(&case_a(&[Number(4, 4, 4), Byte(3, 0, 9)])), 3);
+
+        let plain = quarter(0, 0, 0, 0);
+        let linked = record(QUARTER, 0, 0, &[(4, 1)]);
+        let rows: &[(&str, Vec<u8>, u64, &[u8], u32)] = &[
+            ("bytes 4-7 = 1", one_more(case_a(&[])), 2, &linked, 14),
+            ("owner 1", one_more(case_a(&[])), 1, &plain, 15),
+            ("owner 7", one_more(case_a(&[])), 7, &plain, 15),
+            ("r5[4] = 5", case_a(&[Number(5, 4, 5)]), 2, &plain, 2),
+            ("r3[4] = 3", one_more(case_a(&[Number(3, 4, 3)])), 2, &plain, 0),
+        ];
+        for (name, bytes, owner, new, expected) in rows {
+            let mut later = bytes.clone();
+            let number = append(&mut later, *owner, new);
+            tests.same(&format!("F 15 append, {name}"), number, *expected);
+            tests.same(&format!("F 15 append, {name}, bytes kept"), later == *bytes, *expected != 0);
+        }
+    }
+
+    /// Statements of F 6, 9 and 12 outside the tables.
+    fn sections_6_9_12(tests: &mut Tests) {
+        // B = 0 with a bad quarters link is 12.
+        let before = vec![before_quarter(900_000, 500); 4];
+        let mut bytes = wind(2_000_000, &before, &[]);
+        set(&mut bytes, &[Number(2, 12, 2)]);
+        tests.same("F 6 12 before a bad quarters link", number(&bytes, 1, 1), 12);
+
+        // Behind the fourth usable one only byte 1 is read; no weather of a marked one below 10 %.
+        let mut before = vec![before_quarter(199_999, -1)];
+        before.extend(vec![before_quarter(900_000, 20); 4]);
+        before.push(before_quarter(1_000_000_001, -1));
+        let bytes = wind(2_000_000, &before, &[quarter(350_000, 0, 30, 0)]);
+        tests.same("F 6 what wind Spitz does not read", results(&bytes, 1, 1), (0, 1, 250_000, 14));
+        let mut marked = bytes;
+        set(&mut marked, &[Byte(13, 1, 2)]);
+        tests.same("F 6 byte 1 of every before-quarter", number(&marked, 1, 1), 9);
+
+        // A 97th before-quarter is filed, then 8 in settle.
+        for (count, expected) in [(96, 0), (97, 8)] {
+            let mut parts = vec![before_quarter(0, 1); count];
+            parts.push(quarter(0, 0, 0, 0));
+            let bytes = filed((SOLAR, SPITZ, 100_000), (NEGATIVE, 2), &parts);
+            tests.same(&format!("F 6, 9 {count} before-quarters"), number(&bytes, 1, 1), expected);
+        }
+        for (count, expected) in [(2_976, 0), (2_977, 8)] {
+            let bytes = filed((OTHER, SPITZ, 100_000), (NEGATIVE, 2), &vec![quarter(0, 0, 0, 0); count]);
+            tests.same(&format!("F 6 {count} quarters"), number(&bytes, 1, 1), expected);
+        }
+
+        tests.same("F 12 empty input", printed(&[]), "E 0 0 1\n".into());
+        let mut bytes = vec![0; 65_536];
+        fresh(&mut bytes);
+        tests.same("F 12 65,536 bytes without a plant", printed(&bytes), String::new());
+        bytes.push(0);
+        tests.same("F 12 65,537 bytes", printed(&bytes), "E 0 0 1\n".into());
+        bytes = vec![0; 65_568];
+        fresh(&mut bytes);
+        tests.same("F 12 65,568 bytes", printed(&bytes), "E 0 0 1\n".into());
+        tests.same("F 12 broken link to plant 2", printed(&case_a(&[Number(1, 4, 2)])).ends_with("\nE 2 1 3\n"), true);
+        tests.same("F 12 refusal 6", printed(&case_a(&[Byte(1, 2, 0)])), "E 1 1 6\n".into());
+        tests.same("F 12 no measure", printed(&case_a(&[Number(1, 12, 0)])), String::new());
+
+        // 682 plants share 682 measures, which share 683 quarters.
+        let mut bytes = vec![0; 65_536];
+        fresh(&mut bytes);
+        set(&mut bytes, &[Number(0, 4, 2_048), Number(0, 8, 1)]);
+        for n in 1..2_048i64 {
+            let new = match n {
+                1..=682 => record(PLANT, OTHER, SPITZ, &[(4, (n + 1) % 683), (12, 683), (16, 100_000)]),
+                683..=1_364 => {
+                    let next = if n == 1_364 { 0 } else { n + 1 };
+                    record(MEASURE, NEGATIVE, 2, &[(4, next), (12, 1_365)])
+                }
+                _ => record(QUARTER, 0, 0, &[(4, (n + 1) % 2_048)]),
+            };
+            bytes[RECORD * n as usize..][..RECORD].copy_from_slice(&new);
+        }
+        let mut lines = 0u64;
+        program(&bytes, &mut |piece| lines += piece.iter().filter(|&&byte| byte == b'Q').count() as u64);
+        tests.same("F 12 most Q lines", lines, 317_679_692);
+    }
+
+    fn figures(tests: &mut Tests) {
+        // a
+        let parts = [before_quarter(800_000, 0), quarter(500_001, 0, 0, 0), quarter(500_001, 0, 0, 0), quarter(500_002, 0, 0, 0)];
+        let bytes = filed((OTHER, PAUSCHAL, 1_000_000), (NEGATIVE, 2), &parts);
+        tests.same("R 8 a", amounts(&bytes), vec![74_999, 75_000, 75_000]);
+        tests.same("R 8 a, total", results(&bytes, 1, 1), (0, 3, 224_999, 6));
+        // b, c: speed 20 has 1,000,000 W on the curve, 30 has 1,500,000 W, 40 has 2,000,000 W
+        let bytes = wind(2_000_000, &vec![before_quarter(900_000, 20); 4], &[quarter(350_000, 0, 30, 0)]);
+        tests.same("R 8 b", amounts(&bytes), vec![250_000]);
+        let bytes = wind(2_000_000, &vec![before_quarter(1_200_000, 20); 4], &[quarter(0, 0, 40, 0)]);
+        tests.same("R 8 c", amounts(&bytes), vec![500_000]);
+        // d: with a plan of 1,000,000 W the amount is (1,000,000 - L) / 4
+        let bytes = filed((OTHER, SPITZ, 1_000_000), (NEGATIVE, 1), &[quarter(400_000, 600_000, 0, 1_000_000)]);
+        tests.same("R 8 d", amounts(&bytes), vec![100_000]);
+        // e
+        let bytes = filed((OTHER, SPITZ, 1_000_000), (POSITIVE, 1), &[quarter(700_000, 600_000, 0, 500_000)]);
+        tests.same("R 8 e", amounts(&bytes), vec![-25_000]);
+        tests.same("F 13 -25,000 from C", from_c(&bytes, 8, 24).1, hex("58 9e ff ff ff ff ff ff"));
+        // f, and the falling piece of R 3
+        let curve = [(30, 0), (40, 100_001)];
+        tests.same("R 8 f", [35, 40, 29, 41, 30].map(|v| curve_power(&curve, v)), [50_000, 100_001, 0, 0, 0]);
+        tests.same("R 3 falling piece", curve_power(&[(30, 100_001), (40, 0)], 35), 50_000);
+        // g
+        let mut parts = vec![before_quarter(300_000, 500); 3];
+        parts.push(quarter(80_000, 0, 800, 0));
+        tests.same("R 8 g", amounts(&filed((SOLAR, SPITZ, 1_000_000), (NEGATIVE, 2), &parts)), vec![100_000]);
+        // h, i: one measure each, so that no remainder is carried
+        for (name, month, quarter_of_day, expected) in
+            [("h", 7, 35, 61_400), ("h", 7, 36, 154_725), ("i", 11, 66, 69_900), ("i", 11, 67, 0)]
+        {
+            let bytes = filed((SOLAR, PAUSCHAL, 1_000_000), (NEGATIVE, 2), &[solar_quarter(month, quarter_of_day)]);
+            tests.same(&format!("R 8 {name}, quarter {quarter_of_day}"), amounts(&bytes), vec![expected]);
+        }
+        // j
+        for (reading, expected) in [(200_000, 0), (199_999, 11)] {
+            let mut before = vec![before_quarter(900_000, 20); 3];
+            before.push(before_quarter(reading, 20));
+            let bytes = wind(2_000_000, &before, &[quarter(0, 0, 30, 0)]);
+            tests.same(&format!("R 8 j, {reading}"), number(&bytes, 1, 1), expected);
+        }
+        // k
+        for technology in [WIND, OTHER] {
+            let parts = [before_quarter(100_000, 0), quarter(-20_000, 0, 0, 0)];
+            let bytes = filed((technology, PAUSCHAL, 1_000_000), (NEGATIVE, 2), &parts);
+            tests.same(&format!("R 8 k, technology {technology}"), amounts(&bytes), vec![30_000]);
+        }
+    }
+
+    /// Largest totals of R 10, over 2,976 quarters.
+    fn sizes(tests: &mut Tests) {
+        let most = MOST_POWER as i64;
+        let point = |speed: i64| record(CURVE_POINT, 0, 0, &[(8, speed), (12, most)]);
+        let mut parts = vec![point(0), point(1)];
+        parts.extend(vec![before_quarter(most, 0); 4]);
+        parts.extend(vec![quarter(-most, 0, 1, 0); 2_976]);
+        let bytes = filed((WIND, SPITZ, most), (NEGATIVE, 2), &parts);
+        tests.same("R 10 wind Spitz", results(&bytes, 1, 1), (0, 2_976, 1_488_000_000_000, 2_984));
+
+        let mut parts = vec![before_quarter(most, 0); 95];
+        parts.push(before_quarter(most, 1));
+        parts.extend(vec![quarter(-most, 0, 2_000, 0); 2_976]);
+        let bytes = filed((SOLAR, SPITZ, most), (NEGATIVE, 2), &parts);
+        tests.same("R 10 solar Spitz", results(&bytes, 1, 1), (0, 2_976, 142_848_744_000_000_000, 3_074));
+
+        let new = record(QUARTER, 7, 40, &[(8, -most)]);
+        let bytes = filed((SOLAR, PAUSCHAL, most), (NEGATIVE, 2), &vec![new; 2_976]);
+        tests.same("R 10 solar Pauschal", results(&bytes, 1, 1), (0, 2_976, 1_204_461_600_000, 2_978));
+
+        let bytes = filed((OTHER, SPITZ, most), (POSITIVE, 2), &vec![quarter(most, 0, 0, -most); 2_976]);
+        tests.same("R 10 other Spitz", results(&bytes, 1, 1), (0, 2_976, -1_488_000_000_000, 2_978));
+    }
+
+    /// The factor table of R 4, row by row, each quarter of each month.
+    fn factors(tests: &mut Tests) {
+        let summer = [(0, 23, 0), (24, 35, 2_456), (36, 59, 6_189), (60, 75, 2_456), (76, 95, 0)];
+        let winter = [(0, 35, 0), (36, 39, 2_796), (40, 55, 5_030), (56, 66, 2_796), (67, 95, 0)];
+        let mut wrong = 0;
+        for month in 1..=12 {
+            let rows = if [1, 2, 11, 12].contains(&month) { winter } else { summer };
+            for (from, to, factor) in rows {
+                wrong += (from..=to).filter(|&quarter| solar_factor(month, quarter) != factor).count();
+            }
+        }
+        tests.same("R 4 factors", wrong, 0);
+    }
+
+    /// One case as it stands in the input.
+    fn case(call: u8, a: u64, b: u64, parts: [&[u8]; 4]) -> Vec<u8> {
+        let mut bytes = vec![call];
+        bytes.extend(a.to_le_bytes());
+        bytes.extend(b.to_le_bytes());
+        for part in parts {
+            bytes.extend((part.len() as u32).to_le_bytes());
+            bytes.extend_from_slice(part);
+        }
+        bytes
+    }
+
+    /// Case a through the reading of cases, each call once.
+    fn cases(tests: &mut Tests) {
+        tests.same("FNV-1a", [hash(b""), hash(b"foobar")], [0xcbf2_9ce4_8422_2325, 0x8594_4171_f739_67e8]);
+        let archive = &hex(CASE_A)[..];
+        let input = [
+            case(1, 1, 1, [&[0; 24], &[0; 24], archive, &[]]),
+            case(2, 6, 0, [&[], &[], archive, &[]]),
+            case(2, 7, 0, [&[], &[], archive, &[]]),
+            case(3, 0, 0, [&[], &[], &archive[..33], &[]]),
+            case(4, 2, 0, [&[], &[], archive, &quarter(0, 0, 0, 0)]),
+            case(5, 0, 0, [&[], &[], archive, &[]]),
+            case(6, 0, 0, [&[], &[], archive, &[]]),
+        ];
+        let (_, list, result) = from_c(archive, 24, 24);
+        let text = "M 1 1 3 224999 6\nQ 1 74999\nQ 2 75000\nQ 3 75000\n";
+        let expected = format!(
+            "1 0 {:016x} {:016x}\n2 192\n2 224\n3 1 {:016x}\n4 16 {:016x}\n5 0\n6 {:016x} {}\n",
+            hash(&list),
+            hash(&result),
+            hash(&archive[..33]),
+            hash(archive),
+            hash(text.as_bytes()),
+            text.len()
+        );
+        let mut output = Vec::new();
+        let ended = run_cases(&mut &input.concat()[..], &mut output).is_ok();
+        tests.same("cases", (ended, String::from_utf8(output).unwrap()), (true, expected));
+    }
+
+    pub fn run() -> i32 {
+        let mut tests = Tests { passed: 0, failed: 0 };
+        cases(&mut tests);
+        section_13(&mut tests);
+        section_14(&mut tests);
+        section_15(&mut tests);
+        sections_6_9_12(&mut tests);
+        figures(&mut tests);
+        factors(&mut tests);
+        sizes(&mut tests);
+        println!("{} passed, {} failed", tests.passed, tests.failed);
+        (tests.failed != 0) as i32
+    }
+}
