@@ -45,6 +45,7 @@ check-c: example
 check-program: program
 	$(CARGO) build -q --release --bin emit
 	tests/program.sh target/bin/sandegmur target/reference/release 400
+	tests/examples.sh target/bin/sandegmur
 
 compare: lib
 	$(CARGO) run -q --release --features compare --bin compare -- $(SEED) $(CALLS)

@@ -62,7 +62,7 @@ struct Archive<'a> {
 }
 
 fn length_allowed(length: usize) -> bool {
-    length % RECORD == 0 && length != 0 && length <= RECORD * MOST_RECORDS
+    length.is_multiple_of(RECORD) && length != 0 && length <= RECORD * MOST_RECORDS
 }
 
 impl<'a> Archive<'a> {
@@ -911,7 +911,8 @@ mod self_test {
 
         let plain = quarter(0, 0, 0, 0);
         let linked = record(QUARTER, 0, 0, &[(4, 1)]);
-        let rows: &[(&str, Vec<u8>, u64, &[u8], u32)] = &[
+        type Row<'a> = (&'a str, Vec<u8>, u64, &'a [u8], u32);
+        let rows: &[Row] = &[
             ("bytes 4-7 = 1", one_more(case_a(&[])), 2, &linked, 14),
             ("owner 1", one_more(case_a(&[])), 1, &plain, 15),
             ("owner 7", one_more(case_a(&[])), 7, &plain, 15),
@@ -991,7 +992,12 @@ mod self_test {
 
     fn figures(tests: &mut Tests) {
         // a
-        let parts = [before_quarter(800_000, 0), quarter(500_001, 0, 0, 0), quarter(500_001, 0, 0, 0), quarter(500_002, 0, 0, 0)];
+        let parts = [
+            before_quarter(800_000, 0),
+            quarter(500_001, 0, 0, 0),
+            quarter(500_001, 0, 0, 0),
+            quarter(500_002, 0, 0, 0),
+        ];
         let bytes = filed((OTHER, PAUSCHAL, 1_000_000), (NEGATIVE, 2), &parts);
         tests.same("R 8 a", amounts(&bytes), vec![74_999, 75_000, 75_000]);
         tests.same("R 8 a, total", results(&bytes, 1, 1), (0, 3, 224_999, 6));
