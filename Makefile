@@ -1,12 +1,18 @@
 # make run      build the program and settle the example archive
 # make test     the whole gate: comparisons with the outside program, then every proof from nothing
-# make lib      libsandegmur.a and its header in target/lib, proved first
+# make lib      libsandegmur.a, its header and pkg-config file in target/lib, proved first
+# make install  the same below PREFIX (/usr/local), or DESTDIR in front of it
 # make compare  200,000 generated calls against the outside program (CALLS=, SEED=)
 # make check-pages  generated cases against a reader made from docs/FORMAT.md and docs/RULES.md alone (ARCHIVES=, SEED=)
+# make cases    the outside program's calls and answers for crates/cases, written anew
 # make bench    times beside the outside program's, as ratios
-.PHONY: run test program lib example check-c check-program compare check-pages bench
+.PHONY: run test program lib install printed check-c check-program check-cases cases compare check-pages bench
 
+PREFIX ?= /usr/local
 LIB := target/lib
+INSTALLED := $(CURDIR)/target/installed
+PRINTED := target/printed
+VERSION := $(shell sed -n 's/^.define SANDEGMUR_VERSION_[A-Z]* //p' include/sandegmur.h | paste -s -d .)
 CFLAGS := -std=c99 -Wall -Wextra -Werror -pedantic -O2
 SEED ?= 1
 CALLS ?= 200000
@@ -29,23 +35,46 @@ lib:
 	mkdir -p $(LIB)
 	cp target/staticlib/libhost.a $(LIB)/libsandegmur.a
 	cp include/sandegmur.h $(LIB)/
+	$(call pkgconfig,$(PREFIX)) > $(LIB)/sandegmur.pc
 
-example: lib
-	$(CC) $(CFLAGS) -I$(LIB) examples/host.c $(LIB)/libsandegmur.a -o $(LIB)/example
+# The pkg-config file for a prefix.
+pkgconfig = sed -e 's|@PREFIX@|$(1)|' -e 's|@VERSION@|$(VERSION)|' include/sandegmur.pc.in
 
-check-c: example
-	$(LIB)/example | cmp - examples/host.expected
-	for compiler in gcc clang; do \
-	  command -v $$compiler > /dev/null || continue; \
-	  $$compiler $(CFLAGS) -g -I$(LIB) tests/host.c $(LIB)/libsandegmur.a -o $(LIB)/test-$$compiler || exit 1; \
-	  $(LIB)/test-$$compiler || exit 1; \
-	done
-	if command -v valgrind > /dev/null; then valgrind -q --error-exitcode=1 $(LIB)/test-gcc; fi
+# Library, header and pkg-config file into a folder, to be used from a prefix.
+define put
+	install -d $(1)/include $(1)/lib/pkgconfig
+	install -m 644 $(LIB)/sandegmur.h $(1)/include
+	install -m 644 $(LIB)/libsandegmur.a $(1)/lib
+	$(call pkgconfig,$(2)) > $(1)/lib/pkgconfig/sandegmur.pc
+endef
 
-check-program: program
+install: lib
+	$(call put,$(DESTDIR)$(PREFIX),$(PREFIX))
+
+# Document 01's printed example by the outside program.
+printed:
+	$(CARGO) run -q --release --bin example -- $(CURDIR)/$(PRINTED)
+
+check-c: lib printed
+	tests/c.sh $(LIB) "$(CFLAGS)" $(PRINTED)/host
+	$(call put,$(INSTALLED),$(INSTALLED))
+	tests/install.sh $(INSTALLED) $(VERSION) "$(CC) $(CFLAGS)" $(PRINTED)/host
+
+check-program: program printed
+	cmp $(PRINTED)/archive crates/sandegmur/stdin
+	cmp $(PRINTED)/program crates/sandegmur/stdout
 	$(CARGO) build -q --release --bin emit
 	tests/program.sh target/bin/sandegmur target/reference/release 400
 	tests/examples.sh target/bin/sandegmur
+
+# crates/cases holds the outside program's word, byte for byte.
+check-cases:
+	$(CARGO) run -q --release --bin cases -- $(CURDIR)/target/cases
+	cmp target/cases/data/calls crates/cases/data/calls
+	cmp target/cases/stdout crates/cases/stdout
+
+cases:
+	$(CARGO) run -q --release --bin cases -- $(CURDIR)/crates/cases
 
 compare: lib
 	$(CARGO) run -q --release --features compare --bin compare -- $(SEED) $(CALLS)
@@ -57,5 +86,6 @@ check-pages: lib program
 	  cmp $(PAGES)/lines $(PAGES)/read || { $(ASK); exit 1; }
 	@echo "no difference between the library and the reader of the pages"
 
-bench: lib
-	$(CARGO) run -q --release --features compare --bin bench
+bench: lib program
+	$(CARGO) build -q --release --bin fast
+	$(CARGO) run -q --release --features compare --bin bench -- $(CURDIR)/target/bin/sandegmur

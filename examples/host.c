@@ -1,7 +1,7 @@
 /* A host: files case a of document 01 into a fresh archive, audits it and settles its measure.
  *
- * Build with the archive that `rt staticlib host` writes:
- *     cc -std=c99 -I include examples/host.c target/staticlib/libhost.a -o host
+ * Build with what `make lib` writes:
+ *     cc -std=c99 -Itarget/lib examples/host.c target/lib/libsandegmur.a -o example
  */
 #include "sandegmur.h"
 

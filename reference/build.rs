@@ -9,9 +9,12 @@ fn main() {
     if env::var_os("CARGO_FEATURE_COMPARE").is_none() {
         return;
     }
-    let Some(directory) = env::var_os("SANDEGMUR_LIB") else {
-        println!("cargo:warning=SANDEGMUR_LIB is not set; compare, bench and ask will not link");
-        return;
+    let directory = match env::var_os("SANDEGMUR_LIB") {
+        Some(directory) => directory,
+        None => {
+            println!("cargo:warning=SANDEGMUR_LIB is not set; compare, bench and ask will not link");
+            return;
+        }
     };
     let library = Path::new(&directory).join("libsandegmur.a");
     println!("cargo:rerun-if-changed={}", library.display());

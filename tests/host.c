@@ -1,11 +1,12 @@
 /* The calls from C where the promises end: lengths of 0 with NULL, list lengths that are no whole places, result parts of every
  * length near 24, and refused calls, which leave every byte. Exits with 0 if every check holds.
  *
- *     cc -std=c99 -I include tests/host.c target/staticlib/libhost.a -o host_test
+ *     cc -std=c99 -Itarget/lib tests/host.c target/lib/libsandegmur.a -o test
  */
 #include "sandegmur.h"
 
 #include <stdio.h>
+#include <stdlib.h>
 #include <string.h>
 
 enum { RECORDS = 8, ARCHIVE = RECORDS * SANDEGMUR_RECORD_BYTES, LIST = 64, RESULT = 32, FILL = 9 };
@@ -191,6 +192,42 @@ static void test_show(void)
     CHECK(sandegmur_show(archive, ARCHIVE - 1, 0) == ARCHIVE - 1);
 }
 
+/* Bytes in a block of just their length, so that valgrind sees an access beside them; NULL for none. */
+static uint8_t *block_of(const uint8_t *bytes, size_t length)
+{
+    uint8_t *block = length == 0 ? NULL : malloc(length);
+    if (length != 0 && block == NULL)
+        abort();
+    if (bytes != NULL && length != 0)
+        memcpy(block, bytes, length);
+    return block;
+}
+
+/* Every call on blocks of the archive's bytes cut at any place, and on lists and results that nothing has written. */
+static void test_blocks(void)
+{
+    uint8_t archive[ARCHIVE], new[SANDEGMUR_RECORD_BYTES] = { 5, 7, 43 };
+    file_case_a(archive);
+    for (size_t length = 0; length <= ARCHIVE; length++) {
+        uint8_t *cut = block_of(archive, length), *record = block_of(new, sizeof new);
+        uint8_t *list = block_of(NULL, 3 * SANDEGMUR_PLACE_BYTES), *result = block_of(NULL, SANDEGMUR_RESULT_BYTES);
+        int whole = length == ARCHIVE || length == ARCHIVE - SANDEGMUR_RECORD_BYTES;
+        uint32_t number = settle(cut, length, 1, 1, list, 3 * SANDEGMUR_PLACE_BYTES, result, SANDEGMUR_RESULT_BYTES);
+        CHECK(number == (whole ? SANDEGMUR_NOT_REFUSED : SANDEGMUR_NOT_ARCHIVE));
+        CHECK(sandegmur_audit(cut, length) == number);
+        for (uint64_t shown = 0; shown < RECORDS; shown++)
+            CHECK(sandegmur_show(cut, length, shown) == (whole && shown < 7 ? SANDEGMUR_RECORD_BYTES * shown : length));
+        number = sandegmur_append(cut, length, 2, record, sizeof new);
+        CHECK(number == (length == ARCHIVE ? SANDEGMUR_NOT_REFUSED : whole ? SANDEGMUR_ARCHIVE_FULL : SANDEGMUR_NOT_ARCHIVE));
+        whole = length != 0 && length % SANDEGMUR_RECORD_BYTES == 0;
+        CHECK(sandegmur_fresh(cut, length) == (whole ? SANDEGMUR_NOT_REFUSED : SANDEGMUR_NOT_ARCHIVE));
+        free(cut);
+        free(record);
+        free(list);
+        free(result);
+    }
+}
+
 int main(void)
 {
     test_null();
@@ -199,6 +236,7 @@ int main(void)
     test_minus();
     test_refused();
     test_show();
+    test_blocks();
     if (!failed)
         puts("host: every check holds");
     return failed;

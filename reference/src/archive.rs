@@ -39,7 +39,7 @@ pub fn field(record: &[u8], at: usize) -> i128 {
 
 /// Refusal 1 for the length: 32 × 1..65,535.
 pub fn length(archive: &[u8]) -> Result<(), Refusal> {
-    let whole = archive.len().is_multiple_of(RECORD);
+    let whole = archive.len() % RECORD == 0;
     let records = archive.len() / RECORD;
     if whole && (1..=MOST_RECORDS).contains(&records) {
         Ok(())

@@ -311,3 +311,15 @@ pub fn file(plants: &[Plant], layout: &Layout, rng: &mut Rng) -> Filed {
     }
     Filed { bytes: records.concat(), used, plants: shape }
 }
+
+/// Case a of document 01, as the only measure of a plant with one before-quarter.
+pub fn case_a() -> Plant {
+    let quarter = |measured| Quarter { month: 7, time: 40, measured, ..Quarter::default() };
+    let measure = Measure {
+        direction: 2,
+        execution: 2,
+        before: vec![Before { mark: 1, measured: 800_000, weather: 0 }],
+        quarters: [500_001, 500_001, 500_002].map(quarter).to_vec(),
+    };
+    Plant { technology: 3, variant: 2, nominal: 1_000_000, curve: Vec::new(), measures: vec![measure] }
+}

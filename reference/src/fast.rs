@@ -3,9 +3,37 @@
 //! Short measures are booked with a small store and a walk along the curve's points; longer ones go on with a table
 //! of 1,001 powers and a store for 2,976 amounts. Nothing goes to the list before the last test.
 
+use crate::program::MOST_BYTES;
 use crate::settle::Answer;
+use std::io::{self, Write};
+use std::ops::Index;
 
 type Record = [u8; 32];
+
+/// Bytes as records.
+#[derive(Clone, Copy)]
+struct Records<'a>(&'a [u8]);
+
+impl<'a> Records<'a> {
+    #[inline(always)]
+    fn get(self, number: usize) -> Option<&'a Record> {
+        self.0.get(32 * number..32 * number + 32)?.try_into().ok()
+    }
+
+    #[inline(always)]
+    fn len(self) -> usize {
+        self.0.len() / 32
+    }
+}
+
+impl Index<usize> for Records<'_> {
+    type Output = Record;
+
+    #[inline(always)]
+    fn index(&self, number: usize) -> &Record {
+        self.get(number).expect("a record of the archive")
+    }
+}
 
 const MOST_QUARTERS: usize = 2_976;
 /// Quarters booked before table and large store are made.
@@ -26,21 +54,21 @@ fn link(record: &Record, at: usize) -> u32 {
 
 /// The used records, or refusal 1. With only these in sight, "below U" is the bounds check.
 #[inline(always)]
-fn used_records(archive: &[u8]) -> Result<&[Record], u32> {
-    let (records, rest) = archive.as_chunks::<32>();
-    if !rest.is_empty() || records.is_empty() || records.len() > 65_535 || records[0][..4] != *b"AARB" {
+fn used_records(archive: &[u8]) -> Result<Records<'_>, u32> {
+    let records = archive.len() / 32;
+    if archive.len() % 32 != 0 || records < 1 || records > 65_535 || archive[..4] != *b"AARB" {
         return Err(1);
     }
-    let used = link(&records[0], 4) as usize;
+    let used = link(&Records(archive)[0], 4) as usize;
     if used == 0 {
         return Err(1);
     }
-    records.get(..used).ok_or(1)
+    archive.get(..32 * used).map(Records).ok_or(1)
 }
 
 /// 2, then 3, at a link that is not zero.
 #[inline(always)]
-fn follow(records: &[Record], holder: u32, to: u32, kind: u8) -> Result<&Record, u32> {
+fn follow<'a>(records: Records<'a>, holder: u32, to: u32, kind: u8) -> Result<&'a Record, u32> {
     if to <= holder {
         return Err(2);
     }
@@ -52,7 +80,7 @@ fn follow(records: &[Record], holder: u32, to: u32, kind: u8) -> Result<&Record,
 }
 
 #[inline(always)]
-fn place(records: &[Record], owner: u32, first: u32, kind: u8, place: u64, missing: u32) -> Result<u32, u32> {
+fn place(records: Records, owner: u32, first: u32, kind: u8, place: u64, missing: u32) -> Result<u32, u32> {
     let (mut holder, mut to) = (owner, first);
     let mut left = place;
     if left == 0 {
@@ -85,13 +113,13 @@ fn weather_ok(value: i32, most: u32) -> bool {
 /// A tested curve, still on its chain.
 #[derive(Clone, Copy)]
 struct Curve<'a> {
-    records: &'a [Record],
+    records: Records<'a>,
     first: u32,
     points: u32,
 }
 
 impl<'a> Curve<'a> {
-    fn tested(records: &'a [Record], plant: u32, first: u32) -> Result<Curve<'a>, u32> {
+    fn tested(records: Records<'a>, plant: u32, first: u32) -> Result<Curve<'a>, u32> {
         let (mut holder, mut to) = (plant, first);
         let (mut points, mut before) = (0, -1);
         let (mut wide, mut falling) = (false, false);
@@ -232,7 +260,7 @@ impl Divide for Reciprocal {
 /// field is out of range. Quotients don't wait for the carry: only remainders do.
 #[inline(always)]
 fn book(
-    records: &[Record],
+    records: Records,
     walk: &mut Walk,
     store: &mut [i64],
     sign: i64,
@@ -245,11 +273,13 @@ fn book(
         let quarter = follow(records, holder, to, 5)?;
         holder = to;
         to = link(quarter, 4);
-        let Some(numerator) = magnitude(quarter) else {
-            walk.wide = true;
-            return rest(records, walk, holder, to, count + 1);
+        let numerator = match magnitude(quarter) {
+            Some(numerator) => numerator.max(0) as u64,
+            None => {
+                walk.wide = true;
+                return rest(records, walk, holder, to, count + 1);
+            }
         };
-        let numerator = numerator.max(0) as u64;
         let quotient = divide.quotient(numerator);
         remainder += numerator - quotient * divide.denominator();
         let carried = remainder >= divide.denominator();
@@ -266,7 +296,7 @@ fn book(
 /// Only walks: nothing is booked behind a field out of range or behind 2,976 quarters.
 #[cold]
 #[inline(never)]
-fn rest(records: &[Record], walk: &mut Walk, mut holder: u32, mut to: u32, mut count: usize) -> Result<(), u32> {
+fn rest(records: Records, walk: &mut Walk, mut holder: u32, mut to: u32, mut count: usize) -> Result<(), u32> {
     while to != 0 {
         let quarter = follow(records, holder, to, 5)?;
         count += 1;
@@ -298,7 +328,7 @@ fn finish(walk: &Walk, store: &[i64], links: u64, write: impl FnOnce(&[i64]) -> 
 #[inline(always)]
 #[allow(clippy::too_many_arguments)]
 fn quarters<L: Fn(&Record) -> Option<i64>>(
-    records: &[Record],
+    records: Records,
     measure: u32,
     sign: i64,
     links: u64,
@@ -330,7 +360,7 @@ fn quarters<L: Fn(&Record) -> Option<i64>>(
 #[inline(never)]
 #[allow(clippy::too_many_arguments)]
 fn many<L: Fn(&Record) -> Option<i64>>(
-    records: &[Record],
+    records: Records,
     mut walk: Walk,
     small: [i64; SMALL],
     sign: i64,
@@ -402,7 +432,7 @@ struct Before {
 /// none for a field out of range.
 #[inline(always)]
 fn before(
-    records: &[Record],
+    records: Records,
     measure: u32,
     needed: u32,
     mut take: impl FnMut(&Record) -> Option<(bool, i64, i64)>,
@@ -587,12 +617,11 @@ pub fn host_settle(archive: &[u8], p: u64, k: u64, list: &mut [u8], result: &mut
     let lent: Option<&mut [u8; 24]> = result.try_into().ok();
     let whole = lent.is_some();
     let answer = settle_with(archive, p, k, |amounts| {
-        let (places, _) = list.as_chunks_mut::<8>();
-        if places.len() < amounts.len() || !whole {
+        if list.len() / 8 < amounts.len() || !whole {
             return false;
         }
-        for (place, amount) in places.iter_mut().zip(amounts) {
-            *place = amount.to_le_bytes();
+        for (place, amount) in list.chunks_exact_mut(8).zip(amounts) {
+            place.copy_from_slice(&amount.to_le_bytes());
         }
         true
     });
@@ -667,7 +696,7 @@ pub fn audit(archive: &[u8]) -> u32 {
 }
 
 #[inline(always)]
-fn audited(records: &[Record], marks: &mut [u64]) -> Result<(), u32> {
+fn audited(records: Records, marks: &mut [u64]) -> Result<(), u32> {
     let mut named = 0;
     let mut several = false;
     let mut name = |holder: u32, to: u32, kind: u8| -> Result<(), u32> {
@@ -682,7 +711,8 @@ fn audited(records: &[Record], marks: &mut [u64]) -> Result<(), u32> {
         Ok(())
     };
     name(0, link(&records[0], 8), 1)?;
-    for (number, record) in records.iter().enumerate().skip(1) {
+    for number in 1..records.len() {
+        let record = &records[number];
         let (number, kind) = (number as u32, record[0]);
         if !(1..=5).contains(&kind) {
             return Err(3);
@@ -697,4 +727,85 @@ fn audited(records: &[Record], marks: &mut [u64]) -> Result<(), u32> {
         return Err(17);
     }
     Ok(())
+}
+
+/// Lines of numbers, handed on in parts of up to 64 KB.
+struct Lines<W> {
+    bytes: Vec<u8>,
+    out: W,
+}
+
+/// Bytes of a part, and of the longest line.
+const PART: usize = 65_536;
+const LONGEST: usize = 108;
+
+impl<W: Write> Lines<W> {
+    /// A letter, then numbers with a space before each; made from its end on.
+    #[inline(always)]
+    fn line(&mut self, letter: u8, numbers: &[i64]) -> io::Result<()> {
+        if self.bytes.len() + LONGEST > PART {
+            self.flush()?;
+        }
+        let mut line = [0; LONGEST];
+        let mut first = LONGEST;
+        let mut put = |byte| {
+            first -= 1;
+            line[first] = byte;
+        };
+        put(b'\n');
+        for &number in numbers.iter().rev() {
+            let mut rest = number.unsigned_abs();
+            while rest > 9 {
+                put(b'0' + (rest % 10) as u8);
+                rest /= 10;
+            }
+            put(b'0' + rest as u8);
+            if number < 0 {
+                put(b'-');
+            }
+            put(b' ');
+        }
+        put(letter);
+        self.bytes.extend_from_slice(&line[first..]);
+        Ok(())
+    }
+
+    fn flush(&mut self) -> io::Result<()> {
+        self.out.write_all(&self.bytes)?;
+        self.bytes.clear();
+        Ok(())
+    }
+}
+
+/// The program on an archive of at most 65,536 bytes.
+pub fn program(input: &[u8], out: impl Write) -> io::Result<()> {
+    let mut lines = Lines { bytes: Vec::with_capacity(PART), out };
+    let mut list = [0; MOST_QUARTERS];
+    let (mut p, mut k) = (1, 1);
+    loop {
+        let answer =
+            if input.len() > MOST_BYTES { Answer::refused(1) } else { settle(input, p as u64, k as u64, &mut list) };
+        match answer.number {
+            0 => {
+                lines.line(b'M', &[p, k, answer.count as i64, answer.total, answer.links as i64])?;
+                for (amount, place) in list[..answer.count as usize].iter().zip(1..) {
+                    lines.line(b'Q', &[place, *amount])?;
+                }
+                k += 1;
+            }
+            1 => {
+                lines.line(b'E', &[0, 0, 1])?;
+                return lines.flush();
+            }
+            4 => return lines.flush(),
+            5 => (p, k) = (p + 1, 1),
+            number => {
+                lines.line(b'E', &[p, k, i64::from(number)])?;
+                if number == 2 || number == 3 {
+                    return lines.flush();
+                }
+                k += 1;
+            }
+        }
+    }
 }

@@ -17,6 +17,26 @@ pub enum Call {
     Audit { archive: Vec<u8> },
 }
 
+/// The numbers that each call can give.
+pub const NUMBERS: [(&str, &[Refusal]); 4] = [
+    ("settle", &[0, 1, 2, 3, 4, 5, 6, 7, 8, 9, 10, 11, 12, 13]),
+    ("append", &[0, 1, 2, 3, 14, 15, 16]),
+    ("audit", &[0, 1, 2, 3, 17]),
+    ("fresh", &[0, 1]),
+];
+
+/// The pairings and directions that can settle, each in executions 1 to 3.
+pub const SETTLED: [(Pairing, u8); 8] = [
+    (Pairing::WindSpitz, 2),
+    (Pairing::WindPauschal, 2),
+    (Pairing::SolarSpitz, 2),
+    (Pairing::SolarPauschal, 2),
+    (Pairing::OtherSpitz, 2),
+    (Pairing::OtherSpitz, 1),
+    (Pairing::OtherPauschal, 2),
+    (Pairing::OtherPauschal, 1),
+];
+
 /// A call and, where the way it was made fixes it, its refusal number.
 #[derive(Clone, Debug)]
 pub struct Case {
@@ -226,10 +246,10 @@ fn irradiance(rng: &mut Rng) -> i32 {
 
 /// A speed on, beside or off the curve.
 fn speed(rng: &mut Rng, curve: &[Point]) -> i32 {
-    let (Some(first), Some(last)) = (curve.first(), curve.last()) else {
-        return rng.range(0, 1_000) as i32;
+    let (low, high) = match (curve.first(), curve.last()) {
+        (Some(first), Some(last)) => (i64::from(first.speed), i64::from(last.speed)),
+        _ => return rng.range(0, 1_000) as i32,
     };
-    let (low, high) = (i64::from(first.speed), i64::from(last.speed));
     let value = match rng.below(10) {
         0 | 1 => i64::from(rng.pick(curve).speed) + rng.range(-1, 1),
         2 => low - rng.range(0, 3),
@@ -1588,7 +1608,13 @@ fn lattice(rng: &mut Rng) -> Vec<u8> {
         1..=3 => (12, 20, 30),
         _ => (1 + rng.below(6), 1 + rng.below(6), 1 + rng.below(40)),
     };
-    let quarter = Quarter { month: 6, time: 40, measured: 0, limit: 0, weather: 0, planned: rng.range(0, 9) as i32 };
+    let planned = rng.range(0, 9) as i32;
+    shared(plants, measures, quarters, planned, rng)
+}
+
+/// So many plants, all with the same so many measures, all with the same so many quarters.
+pub fn shared(plants: usize, measures: usize, quarters: usize, planned: i32, rng: &mut Rng) -> Vec<u8> {
+    let quarter = Quarter { month: 6, time: 40, measured: 0, limit: 0, weather: 0, planned };
     let own = Measure { direction: 2, execution: 2, before: Vec::new(), quarters: Vec::new() };
     let plant = Plant { technology: 3, variant: 1, nominal: 100_000, curve: Vec::new(), measures: Vec::new() };
     let mut sheet = vec![plant; plants];

@@ -106,6 +106,15 @@ impl Pairing {
     }
 }
 
+/// Pairing, direction and execution of a measure.
+pub fn terms(archive: &[u8], p: u64, k: u64) -> Option<(Pairing, u8, u8)> {
+    let used = used(archive).ok()?;
+    let plant = place(archive, used, 0, FIRST, PLANT, p, 4).ok()?;
+    let measure = place(archive, used, plant, SECOND, MEASURE, k, 5).ok()?;
+    let (plant, measure) = (record(archive, plant), record(archive, measure));
+    Some((Pairing::of(plant[1], plant[2])?, measure[1], measure[2]))
+}
+
 /// A fraction, its denominator above 0.
 #[derive(Clone, Copy, Debug, PartialEq, Eq)]
 pub struct Fraction {

@@ -350,7 +350,7 @@ fn settle(slip: Slip, archive: &[u8], p: u64, k: u64, list: &mut [u8], result: &
     let numbers = quarter_walk.clone()?;
     links += numbers.len() as u64;
     test((1..=2_976).contains(&numbers.len()), 8)?;
-    let places = if is(Slip::RaggedPlace) { list.len().div_ceil(8) } else { list.len() / 8 };
+    let places = if is(Slip::RaggedPlace) { (list.len() + 7) / 8 } else { list.len() / 8 };
     if is(Slip::ListFirst) {
         test(places >= numbers.len(), 13)?;
     }
@@ -593,8 +593,9 @@ pub fn program(slip: Slip, input: &[u8]) -> Vec<u8> {
         }
         input = &input[..65_536];
     }
-    let Ok(used) = used(input) else {
-        return b"E 0 0 1\n".to_vec();
+    let used = match used(input) {
+        Ok(used) => used,
+        Err(_) => return b"E 0 0 1\n".to_vec(),
     };
     let (mut p, mut k, mut stored) = (1, 1, 0);
     loop {

@@ -54,11 +54,6 @@ fn amounts(plant: Plant) -> Result<Vec<i64>, u32> {
     Ok(list[..count].to_vec())
 }
 
-fn case_a() -> Plant {
-    let quarters = [500_001, 500_001, 500_002].map(quarter).to_vec();
-    plant(3, 2, 1_000_000, vec![], vec![measure(2, 2, vec![before(800_000, 0)], quarters)])
-}
-
 fn wind(nominal: i32, measured: i32, t: i32, l: i32) -> Plant {
     let curve = vec![point(50, 1_000_000), point(80, 1_500_000), point(100, 2_000_000)];
     let speed = curve.iter().find(|point| point.power == t).map_or(0, |point| point.speed);
@@ -236,9 +231,12 @@ fn table() {
     assert_eq!((wrong.kind(4), audit(&wrong.bytes)), (5, 17));
 }
 
+/// What the program prints; the same in both implementations.
 fn printed(input: &[u8]) -> String {
-    let mut out = Vec::new();
+    let (mut out, mut other) = (Vec::new(), Vec::new());
     program(input, &mut out).unwrap();
+    fast::program(input, &mut other).unwrap();
+    assert!(out == other);
     String::from_utf8(out).unwrap()
 }
 

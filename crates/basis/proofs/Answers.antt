@@ -7,7 +7,7 @@ use native.Mathlib.Nat.{zero-add}
 use native.Mathlib.Omega.{arith}
 use borrow.Author.Tests.{lt-ltb, le-ltb, le-leb, lt-leb, eq-eqb, ne-eqb}
 use lib.Dec.{leb}
-use lib.IntN.{pos, subℕ, _+ℤ_, +ℤ-idl, +ℤ-idr}
+use lib.IntN.{ℤ, pos, subℕ, +ℤ-idl, +ℤ-idr}
 use lib.ListN.{length}
 use Rattle.rules.specs.Outcome.{Outcome, refused, given, _>>=_, _>>_, require}
 use Rattle.rules.specs.Refusals.{badCount, outOfRange, tooFewUsable, divisorZero}
@@ -17,9 +17,9 @@ use Rattle.rules.specs.Terms.{Point, markAllowed, nominalPower}
 use Rattle.rules.specs.Reference.{curvePower}
 use Rattle.rules.specs.Settle.{Place, Basis, beforesOf, marked, usable, upToUsed, totalMeasured, windBasis, firstMarked, pauschalBasis, solarBasis}
 use Rattle.rules.proofs.Folds.{gatheredFrom}
-use Rattle.rules.proofs.Ints.{orZero-add, sub-parts}
+use Rattle.rules.proofs.Ints.{biased-eq}
+use Rattle.units.specs.declared.Watt.{Watt}
 use Rattle.energy.specs.declared.reference.Reference.the-variants.{OnCurve, LastMeasured, OnIrradiance}
-use Rattle.energy.specs.References.{sumBias, powerBias}
 use Rattle.basis.specs.declared.Purpose.{Purpose}
 use Rattle.basis.specs.declared.Purpose.the-variants.{Four, First, All}
 use Rattle.basis.specs.declared.Sums.{Sums}
@@ -28,9 +28,8 @@ use Rattle.basis.specs.declared.Gathered.{Gathered}
 use Rattle.basis.specs.declared.Gathered.the-variants as gathered
 use Rattle.basis.specs.declared.Based.{Based}
 use Rattle.basis.specs.declared.Based.the-variants.{On, Refused}
-use Rattle.basis.specs.Sums.{noSums, start, steppedBy, RoomIn, passed, gatheredOf, gatheredAnswer, RoomGathered}
+use Rattle.basis.specs.Sums.{powerBias, noSums, start, steppedBy, RoomIn, passed, gatheredOf, gatheredAnswer, RoomGathered}
 use Rattle.basis.specs.Based.{basedAnswer, windOf, solarOf}
-use Rattle.basis.proofs.Taken.{raised-is}
 use Rattle.basis.proofs.Rest.{rest, from, from-is}
 
 -- ---- the basis from what is gathered
@@ -133,6 +132,20 @@ module _ (o : Outcome Walk) (x : Gathered) (a : x ≡ gatheredAnswer o) where
 pub room-of : (x : Gathered) (w : Walk) → x ≡ gathered.Of w → RoomGathered x → RoomIn w × (w .count ≤ 96)
 room-of x w e h = subst RoomGathered e h
 
+-- a power that isn't below zero, as a natural number
+pub natural-told : (u n : ℕ) (z : ℤ) → u ≡ orZero z → z ≡ pos n → (u ≡ n) × (z ≡ pos u)
+natural-told u n z e f = let i : u ≡ n = e ∙ ap orZero f in (i, f ∙ ap pos (sym i))
+
+-- a power by its number
+abbrev watt : ℤ → Watt
+watt z = record { 0 = z }
+
+same-watt : (w : Watt) (z : ℤ) → w .0 ≡ z → w ≡ watt z
+same-watt w z e = ap (λ (y : ℤ). watt y) e
+
+natural : (n : ℕ) → pos n ≡ subℕ n 0
+natural n = biased-eq n 0 (pos n) (omega arith)
+
 -- after the walk: 11, then 12
 module _ (links : ℕ) (s : Sums) where
   none : (n : ℕ) → n + 0 ≡ n
@@ -148,17 +161,20 @@ module _ (links : ℕ) (s : Sums) where
       unfolding rest _>>_ require
       four-zero z = rw (none (s .used), eq-eqb (s .used) 4 enough, none (s .b), le-ltb 0 (s .b) (omega arith))
 
-      pub four-on : (s .b ≡ 0 → ⊥) → On (OnCurve (s .a) (s .b) pn) links ≡ basedAnswer (rest (Four pn) points links s [])
+      pub four-on : (s .b ≡ 0 → ⊥) → (a b p : Watt) → a .0 ≡ subℕ (s .a) 0 → b .0 ≡ subℕ (s .b) 0 → p .0 ≡ pos pn
+          → On (OnCurve a b p) links ≡ basedAnswer (rest (Four pn) points links s [])
       unfolding rest _>>_ require
-      four-on z = rw (none (s .used), eq-eqb (s .used) 4 enough, none (s .b), lt-ltb 0 (s .b) (omega arith), none (s .a))
+      four-on z a b p ea eb ep =
+          rw (none (s .used), eq-eqb (s .used) 4 enough, none (s .b), lt-ltb 0 (s .b) (omega arith), none (s .a))
+          (rw (same-watt a (pos (s .a)) (ea ∙ sym (natural (s .a))), same-watt b (pos (s .b)) (eb ∙ sym (natural (s .b))), same-watt p (pos pn) ep))
 
   pub first-few : s .used ≡ 0 → Refused tooFewUsable ≡ basedAnswer (rest First [] links s [])
   unfolding rest firstMarked
   first-few z = rw (eq-eqb (s .used) 0 z)
 
-  pub first-on : (s .used ≡ 0 → ⊥) → On (LastMeasured (s .a)) links ≡ basedAnswer (rest First [] links s [])
+  pub first-on : (s .used ≡ 0 → ⊥) → (p : Watt) → p .0 ≡ subℕ (s .a) powerBias → On (LastMeasured p) links ≡ basedAnswer (rest First [] links s [])
   unfolding rest
-  first-on z = rw (ne-eqb (s .used) 0 z, ← raised-is (subℕ (s .a) powerBias) (s .a) refl)
+  first-on z p e = rw (ne-eqb (s .used) 0 z, same-watt p (subℕ (s .a) powerBias) e)
 
   pub all-few : s .used ≡ 0 → Refused tooFewUsable ≡ basedAnswer (rest All [] links s [])
   unfolding rest _>>_ require
@@ -169,11 +185,14 @@ module _ (links : ℕ) (s : Sums) where
     unfolding rest _>>_ require
     all-zero z = rw (none (s .used), le-leb 1 (s .used) (omega arith), none (s .b), le-ltb 0 (s .b) (omega arith))
 
-    pub all-on : (s .b ≡ 0 → ⊥) → s .used ≤ 96
-        → On (OnIrradiance (s .a + 1000000000 * (96 - s .used)) (s .b)) links ≡ basedAnswer (rest All [] links s [])
+    pub all-on : (s .b ≡ 0 → ⊥) → (a : Watt) → a .0 ≡ subℕ (s .a) (powerBias * s .used)
+        → On (OnIrradiance a (record { 0 = s .b })) links ≡ basedAnswer (rest All [] links s [])
     unfolding rest _>>_ require
-    all-on z h = rw (none (s .used), le-leb 1 (s .used) (omega arith), none (s .b), lt-ltb 0 (s .b) (omega arith), ← raised-sum)
-      where
-        raised-sum : s .a + 1000000000 * (96 - s .used) ≡ orZero (subℕ (s .a) (powerBias * s .used) +ℤ pos 0 +ℤ pos sumBias)
-        raised-sum = rw (+ℤ-idr (subℕ (s .a) (powerBias * s .used)))
-            (omega (arith, orZero-add (subℕ (s .a) (powerBias * s .used)) (pos sumBias), sub-parts (s .a) (powerBias * s .used)))
+    all-on z a e = rw (
+      none (s .used),
+      le-leb 1 (s .used) (omega arith),
+      none (s .b),
+      lt-ltb 0 (s .b) (omega arith),
+      +ℤ-idr (subℕ (s .a) (powerBias * s .used)),
+      same-watt a (subℕ (s .a) (powerBias * s .used)) e,
+    )

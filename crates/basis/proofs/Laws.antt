@@ -7,7 +7,8 @@ use native.Mathlib.Nat.{suc-mul}
 use native.Mathlib.Omega.{arith}
 use borrow.Author.Tests.{eqb-true}
 use lib.Dec.{ltb→lt, leb→le}
-use lib.IntN.{ℤ, pos, _+ℤ_}
+use lib.IntN.{ℤ, pos}
+use lib.Signed.{mag}
 use lib.ListN.{length}
 use Rattle.rules.specs.Outcome.{Outcome, refused, given}
 use Rattle.rules.specs.Numbers.{all, keep, sum, orZero}
@@ -21,17 +22,18 @@ use Rattle.rules.specs.Reference as book
 use Rattle.rules.specs.Reference.{curvePower}
 use Rattle.rules.specs.Settle.{Place, Basis, pointsOf, beforesOf, marked, usable, upToUsed, totalMeasured, windBasis, firstMarked, pauschalBasis, solarBasis, basisBy}
 use Rattle.rules.proofs.Inversion.{Holds, holds-refused, holds-bind, holds-require, holds-given, same-given, All, none, more}
-use Rattle.rules.proofs.Ints.{under, parts-eq, biased-eq, orZero-add, under-add}
+use Rattle.rules.proofs.Ints.{under, parts-eq, orZero-add, under-add, mag-parts}
 use Rattle.rules.proofs.Ranges.{within-natural, within-signed}
 use Rattle.rules.proofs.Sound.{both}
 use Rattle.place.proofs.Laws.{nominal-is}
 use Rattle.energy.specs.declared.reference.Reference.{Reference}
-use Rattle.energy.specs.References.{sumBias, powerBias, meaning, Bounded}
+use Rattle.energy.specs.References.{meaning, Bounded}
+use Rattle.energy.proofs.References.{power-small}
 use Rattle.basis.specs.declared.Based.{Based}
 use Rattle.basis.specs.declared.Based.the-variants.{On, Refused}
 use Rattle.basis.specs.Based.{held, basedAnswer}
 use Rattle.basis.proofs.Taken.{passes}
-use Rattle.basis.proofs.Rest.{tenth-natural, raised-back}
+use Rattle.basis.proofs.Rest.{tenth-natural}
 use Rattle.basis.proofs.Lines.{curve-low}
 
 -- ---- what an answer says
@@ -127,8 +129,13 @@ module _ (pn : ℕ) (low : pn ≤ 1000000000) (points : List Point) (powers : Al
       let u = sum-natural four (all-weaker four (λ x h. ap under (tenth-natural pn (x .measured) (h .0))) ks) in
       let s = sum-low (λ x. curvePower points (orZero (x .weather))) 1000000000 four (all-weaker four (λ x h. curve-low 1000000000 points (orZero (x .weather)) powers) ks) in
       record {
-        is = ap (λ (a : ℤ). book.onCurve a b pn points) (natural (totalMeasured four) u);
-        bounded = (omega (arith, parts .0, count), some, omega (arith, s, count, e), low);
+        is = refl;
+        bounded = (
+          record { is = natural (totalMeasured four) u; low = omega (arith, parts .0, count) },
+          record { is = refl; low = omega (arith, s, count, e) },
+          some,
+          record { is = refl; low = low },
+        );
       }
 
   wind-held : (entries : List Entry) → Holds (HeldBy points) (windBasis pn points entries)
@@ -151,16 +158,13 @@ points-low archive place =
     (all-weaker entries (λ e h. point-low (e .bytes) h) (all-passed (λ e. pointAllowed (e .bytes)) entries (passes r)))))))
 
 -- wind and other Pauschal
-raised-held : (z : ℤ) → isPower z ≡ true → (points : List Point) → HeldAs (book.lastMeasured z) points
-raised-held z e points = record {
-  is = ap book.lastMeasured (raised-back z e);
-  bounded = omega (arith, within-signed 999999999 1000000000 z e, orZero-add z (pos powerBias));
-}
+power-held : (z : ℤ) → isPower z ≡ true → (points : List Point) → HeldAs (book.lastMeasured z) points
+power-held z e points = record { is = refl; bounded = power-small z e }
 
 first-held : (points : List Point) (xs : List Before) (links : ℕ) → Holds (HeldBy points) (firstMarked xs links)
 unfolding firstMarked
 first-held points [] links = holds-refused 11
-first-held points (x ∷ xs) links = holds-require _ 9 _ (λ r. holds-given _ (raised-held (x .measured) (passes r) points))
+first-held points (x ∷ xs) links = holds-require _ 9 _ (λ r. holds-given _ (power-held (x .measured) (passes r) points))
 
 pauschal-held : (points : List Point) (archive : List ℕ) (place : Place) → Holds (HeldBy points) (pauschalBasis archive place)
 pauschal-held points archive place = holds-bind _ _ (λ entries e. first-held points (marked entries) (length entries))
@@ -172,11 +176,8 @@ all-held points xs b range few e some =
     let ks = all-passed (λ x. isPower (x .measured) && isIrradiance (x .weather)) xs range in
     let parts = sum-parts xs (all-weaker xs (λ x h. both (isPower (x .measured)) _ h .0) ks) in
     let s = sum-low (λ x. orZero (x .weather)) 2000 xs (all-weaker xs (λ x h. within-natural 0 2000 (x .weather) (both (isPower (x .measured)) _ h .1) .2) ks) in
-    let r = orZero-add (totalMeasured xs) (pos sumBias) in
-    record {
-      is = ap (λ (a : ℤ). book.onIrradiance a b) (biased-eq (orZero (totalMeasured xs +ℤ pos sumBias)) sumBias (totalMeasured xs) (omega (arith, parts .1, few, r)));
-      bounded = (omega (arith, parts .0, few, r), some, omega (arith, s, few, e));
-    }
+    let m : mag (totalMeasured xs) < 96000000001 = mag-parts (totalMeasured xs) (omega (arith, parts .0, few)) (omega (arith, parts .1, few)) in
+    record { is = refl; bounded = (omega (arith, m), some, omega (arith, s, few, e)) }
 
 solar-held : (points : List Point) (xs : List Before) (links : ℕ) → length xs ≤ 96 → Holds (HeldBy points) (solarBasis xs links)
 unfolding solarBasis
@@ -210,6 +211,6 @@ module _ (archive : List ℕ) (place : Place) (allowed : plantAllowed (place .pl
       (wind-held (nominalPower (place .plant .bytes)) nominal-low qs (points-low archive place .of qs f) entries)))
   basis-held wind pauschal e = pauschal-held points archive place
   basis-held solar spitz e = holds-bind _ _ (λ entries f. solar-held points (marked entries) (length entries) (befores-few archive place .of entries f))
-  basis-held solar pauschal e = holds-given _ (record { is = refl; bounded = nominal-low })
+  basis-held solar pauschal e = holds-given _ (record { is = refl; bounded = record { is = refl; low = nominal-low } })
   basis-held other spitz e = holds-given _ (record { is = refl; bounded = tt })
   basis-held other pauschal e = pauschal-held points archive place

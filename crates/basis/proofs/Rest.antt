@@ -20,12 +20,11 @@ use Rattle.rules.proofs.Folds.{gathered}
 use Rattle.rules.proofs.Ints.{biased-add, biased-eq, orZero-add, le-parts}
 use Rattle.rules.proofs.Ranges.{within-signed}
 use Rattle.rules.proofs.Sound.{both}
-use Rattle.energy.specs.References.{powerBias}
 use Rattle.basis.specs.declared.Purpose.{Purpose}
 use Rattle.basis.specs.declared.Purpose.the-variants.{Four, First, All}
 use Rattle.basis.specs.declared.Sums.{Sums}
 use Rattle.basis.specs.declared.Walk.{Walk}
-use Rattle.basis.specs.Sums.{raised, taken, withTaken, stepped, steppedBy, passed}
+use Rattle.basis.specs.Sums.{powerBias, raised, taken, withTaken, stepped, steppedBy, passed}
 use Rattle.basis.proofs.Taken.{ten-above, ten-under}
 
 unfoldable pub rest : Purpose → List Point → ℕ → Sums → List Before → Outcome Basis

@@ -14,11 +14,10 @@ use Rattle.rules.specs.Archive.{linkAt, fieldAt, twos}
 use Rattle.rules.specs.Terms.{Point, isPower, isSpeed, isIrradiance, beforeOf}
 use Rattle.rules.specs.Reference.{curvePower}
 use Rattle.rules.proofs.Ints.{under, parts-le, le-parts, sub-parts, orZero-sub, orZero-add, orZero-neg, under-neg}
-use Rattle.energy.specs.References.{powerBias}
 use Rattle.basis.specs.declared.Purpose.the-variants.{Four, First, All}
 use Rattle.basis.specs.declared.Sums.{Sums}
 use Rattle.basis.specs.declared.Added.the-variants.{To, OutOfRange}
-use Rattle.basis.specs.Sums.{plus, onlyOne, raised, taken, addedAnswer, Room, Grown}
+use Rattle.basis.specs.Sums.{plus, onlyOne, powerBias, raised, taken, addedAnswer, Room, Grown}
 
 -- ---- raised powers
 

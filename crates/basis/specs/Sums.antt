@@ -14,7 +14,6 @@ use Rattle.rules.specs.Terms.{Point, Before, isPower, isSpeed, isIrradiance, is
 use Rattle.rules.specs.Reference.{curvePower}
 use Rattle.rules.specs.Settle.{Place, tenPercent}
 use Rattle.rules.proofs.Folds.{gatheredFrom}
-use Rattle.energy.specs.References.{powerBias}
 use Rattle.curve.specs.declared.Curve.{Curve}
 use Rattle.curve.specs.Tables.{Low, Tabulates}
 use Rattle.basis.specs.declared.Purpose.{Purpose}
@@ -51,6 +50,10 @@ plus s a b = record { used = s .used + 1; a = s .a + a; b = s .b + b }
 -- one used, for its power alone
 abbrev pub onlyOne : ℕ → Sums
 onlyOne a = record { used = 1; a = a; b = 0 }
+
+-- what is added to a power, so that it isn't below zero
+abbrev pub powerBias : ℕ
+powerBias = 1000000000
 
 -- a power raised by 1,000,000,000
 abbrev pub raised : ℤ → ℕ

@@ -17,6 +17,7 @@ use energy::reference::Reference;
 use place::Place;
 use rules::kind;
 use rules::refusal;
+use units::Irradiance;
 use units::Watt;
 
 // Wind Spitz: the first four marked ones whose measured power is 10 % of Pn or more. Wind and other Pauschal: the first marked one.
@@ -95,7 +96,7 @@ fn add_four(pn: u64, curve: Curve, table: &[u64], sums: Sums, r: &[u8]) -> Added
         return Added::OutOfRange;
     }
     let on_curve = curve::power_at(curve, table, units::speed_of(word));
-    Added::To(plus(sums, power - 1000000000, on_curve))
+    Added::To(plus(sums, power - 1000000000, units::unsigned(on_curve)))
 }
 
 // The same for Pauschal; no 10 % test.
@@ -260,7 +261,13 @@ pub fn wind(archive: &[u8], place: Place, curve: Curve, table: &[u64], links: u6
 {
     let i = place.plant as usize;
     let pn = place::terms::nominal_power(&archive[32 * i..32 * i + 32]);
-    match gather(archive, place, Purpose::Four(pn), curve, table) {
+    match gather(
+        archive,
+        place,
+        Purpose::Four(units::unsigned(pn)),
+        curve,
+        table,
+    ) {
         Gathered::Of(four) => {
             if four.sums.used != 4 {
                 return Based::Refused(refusal::TOO_FEW_USABLE);
@@ -269,7 +276,11 @@ pub fn wind(archive: &[u8], place: Place, curve: Curve, table: &[u64], links: u6
                 return Based::Refused(refusal::DIVISOR_ZERO);
             }
             Based::On(
-                Reference::OnCurve(four.sums.a, four.sums.b, pn),
+                Reference::OnCurve(
+                    units::lowered(four.sums.a, 0),
+                    units::lowered(four.sums.b, 0),
+                    pn,
+                ),
                 links + four.count,
             )
         }
@@ -291,7 +302,8 @@ pub fn pauschal(archive: &[u8], place: Place) -> Based
             if first.sums.used == 0 {
                 return Based::Refused(refusal::TOO_FEW_USABLE);
             }
-            Based::On(Reference::LastMeasured(first.sums.a), first.count)
+            let power = units::lowered(first.sums.a, 1000000000);
+            Based::On(Reference::LastMeasured(power), first.count)
         }
         Gathered::Refused(n) => Based::Refused(n),
     }
@@ -311,8 +323,11 @@ pub fn solar(archive: &[u8], place: Place) -> Based
             if all.sums.b == 0 {
                 return Based::Refused(refusal::DIVISOR_ZERO);
             }
-            let a = all.sums.a + 1000000000 * (96 - all.sums.used);
-            Based::On(Reference::OnIrradiance(a, all.sums.b), all.count)
+            let a = units::lowered(all.sums.a, 1000000000 * all.sums.used);
+            Based::On(
+                Reference::OnIrradiance(a, Irradiance(all.sums.b)),
+                all.count,
+            )
         }
         Gathered::Refused(n) => Based::Refused(n),
     }

@@ -103,6 +103,6 @@ module _ (a b : Point) (table : List â„•) (p : Piece a b) (size : length table â
           omega (
             arith,
             filled-within a b (b .speed - a .speed) (a .speed) v table h (omega arith) (omega (arith, p .right .low-speed)),
-            line-low a b (p .rises) v h k 1000000000 (p .left .low-power) (p .right .low-power),
+            line-low a b v h k 1000000000 (p .left .low-power) (p .right .low-power),
           )
       line v (inr h) (inr k) = omega (arith, filled-outside a b (b .speed - a .speed) (a .speed) v table (inr (omega (arith, p .rises))), low v)

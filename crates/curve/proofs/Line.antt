@@ -23,64 +23,63 @@ module _ (a b : Point) where
       sym (div-eq-of-lt-le {k = power} (b .speed - a .speed) {m = lineSum v} (omega (arith, l .value))
       (omega (arith, l .value, l .part, add-mul power 1 (b .speed - a .speed))))
 
-  module _ (rises : a .speed < b .speed) where
-    pub line-starts : OnLine (a .speed) (a .power) 0
-    line-starts =
-        let z : a .speed - a .speed ≡ 0 = omega arith in
-        record { value = rw z (omega arith); part = omega arith }
+  pub line-starts : a .speed < b .speed → OnLine (a .speed) (a .power) 0
+  line-starts rises =
+      let z : a .speed - a .speed ≡ 0 = omega arith in
+      record { value = rw z (omega arith); part = omega arith }
 
-    module _ (v : ℕ) (from : a .speed ≤ v) (until : v < b .speed) where
-      -- no value is above both powers
-      pub line-low : (top : ℕ) → a .power ≤ top → b .power ≤ top → lineAt a b v ≤ top
-      line-low top ha hb = div-le-of-le-mul (b .speed - a .speed) (omega (
-        arith,
-        mul-le-mul-right (b .speed - v) ha,
-        mul-le-mul-right (v - a .speed) hb,
-        mul-add top (b .speed - v) (v - a .speed),
-        ap (λ (w : ℕ). top * w) whole,
-        mul-comm top (b .speed - a .speed),
-      ))
+  module _ (v : ℕ) (from : a .speed ≤ v) (until : v < b .speed) where
+    -- no value is above both powers
+    pub line-low : (top : ℕ) → a .power ≤ top → b .power ≤ top → lineAt a b v ≤ top
+    line-low top ha hb = div-le-of-le-mul (b .speed - a .speed) (omega (
+      arith,
+      mul-le-mul-right (b .speed - v) ha,
+      mul-le-mul-right (v - a .speed) hb,
+      mul-add top (b .speed - v) (v - a .speed),
+      ap (λ (w : ℕ). top * w) whole,
+      mul-comm top (b .speed - a .speed),
+    ))
+      where
+        whole : b .speed - v + (v - a .speed) ≡ b .speed - a .speed
+        whole = omega arith
+
+    line-on : lineSum (v + 1) + a .power ≡ lineSum v + b .power
+    line-on = omega (
+      arith,
+      ap (λ (w : ℕ). a .power * w) left,
+      mul-add (a .power) (b .speed - (v + 1)) 1,
+      ap (λ (w : ℕ). b .power * w) right,
+      mul-add (b .power) (v - a .speed) 1,
+    )
+      where
+        left : b .speed - v ≡ b .speed - (v + 1) + 1
+        left = omega arith
+
+        right : v + 1 - a .speed ≡ v - a .speed + 1
+        right = omega arith
+
+    -- a speed on: after the carry, the change raised by `raise` is added, and `raise` taken away
+    module _ (raise step part : ℕ) (change : step * (b .speed - a .speed) + part + a .power ≡ b .power + raise * (b .speed - a .speed))
+        (power rest : ℕ) (l : OnLine v power rest)
+        (power′ rest′ : ℕ) (carried : power′ * (b .speed - a .speed) + rest′ ≡ power * (b .speed - a .speed) + rest + part)
+        (fits : rest′ < b .speed - a .speed) where
+      sum-on : (power′ + step) * (b .speed - a .speed) + rest′ ≡ lineSum (v + 1) + raise * (b .speed - a .speed)
+      sum-on = omega (arith, line-on, l .value, add-mul power′ step (b .speed - a .speed))
+
+      line-room : raise ≤ power′ + step
+      line-room =
+          let h : raise < power′ + step + 1 = lt-of-mul-lt-mul-right (b .speed - a .speed) {m = raise} {n = power′ + step + 1}
+          (omega (arith, sum-on, add-mul (power′ + step) 1 (b .speed - a .speed))) in
+          omega arith
+
+      line-next : OnLine (v + 1) (power′ + step - raise) rest′
+      line-next = record {
+        value = omega (arith, sum-on, add-mul (power′ + step - raise) raise (b .speed - a .speed), ap (λ (k : ℕ). k * (b .speed - a .speed)) back);
+        part = fits;
+      }
         where
-          whole : b .speed - v + (v - a .speed) ≡ b .speed - a .speed
-          whole = omega arith
-
-      line-on : lineSum (v + 1) + a .power ≡ lineSum v + b .power
-      line-on = omega (
-        arith,
-        ap (λ (w : ℕ). a .power * w) left,
-        mul-add (a .power) (b .speed - (v + 1)) 1,
-        ap (λ (w : ℕ). b .power * w) right,
-        mul-add (b .power) (v - a .speed) 1,
-      )
-        where
-          left : b .speed - v ≡ b .speed - (v + 1) + 1
-          left = omega arith
-
-          right : v + 1 - a .speed ≡ v - a .speed + 1
-          right = omega arith
-
-      -- a speed on: after the carry, the change raised by `raise` is added, and `raise` taken away
-      module _ (raise step part : ℕ) (change : step * (b .speed - a .speed) + part + a .power ≡ b .power + raise * (b .speed - a .speed))
-          (power rest : ℕ) (l : OnLine v power rest)
-          (power′ rest′ : ℕ) (carried : power′ * (b .speed - a .speed) + rest′ ≡ power * (b .speed - a .speed) + rest + part)
-          (fits : rest′ < b .speed - a .speed) where
-        sum-on : (power′ + step) * (b .speed - a .speed) + rest′ ≡ lineSum (v + 1) + raise * (b .speed - a .speed)
-        sum-on = omega (arith, line-on, l .value, add-mul power′ step (b .speed - a .speed))
-
-        line-room : raise ≤ power′ + step
-        line-room =
-            let h : raise < power′ + step + 1 = lt-of-mul-lt-mul-right (b .speed - a .speed) {m = raise} {n = power′ + step + 1}
-            (omega (arith, sum-on, add-mul (power′ + step) 1 (b .speed - a .speed))) in
-            omega arith
-
-        line-next : OnLine (v + 1) (power′ + step - raise) rest′
-        line-next = record {
-          value = omega (arith, sum-on, add-mul (power′ + step - raise) raise (b .speed - a .speed), ap (λ (k : ℕ). k * (b .speed - a .speed)) back);
-          part = fits;
-        }
-          where
-            back : power′ + step - raise + raise ≡ power′ + step
-            back = omega (arith, line-room)
+          back : power′ + step - raise + raise ≡ power′ + step
+          back = omega (arith, line-room)
 
 -- the change of the value from a speed to the next, raised by 1,000,000,000 so that it isn't below zero, as a quotient and a remainder
 abbrev pub changeOf : Point → Point → ℕ
@@ -113,7 +112,7 @@ module _ {a b : Point} (p : Piece a b) where
 
   module _ (v power rest : ℕ) (from : a .speed ≤ v) (h : v < b .speed) (l : OnLine a b v power rest) where
     pub power-low : power ≤ 1000000000
-    power-low = omega (arith, line-power a b v power rest l, line-low a b (p .rises) v from h 1000000000 (p .left .low-power) (p .right .low-power))
+    power-low = omega (arith, line-power a b v power rest l, line-low a b v from h 1000000000 (p .left .low-power) (p .right .low-power))
 
     pub line-turn : (power′ rest′ : ℕ)
         → ((b .speed - a .speed ≤ rest + partOf a b) × (power′ ≡ power + 1) × (rest′ ≡ rest + partOf a b - (b .speed - a .speed)))
@@ -133,6 +132,6 @@ module _ {a b : Point} (p : Piece a b) where
             → power′ ≤ 1000000001 → Turned a b v power′ rest′
         on e k low = record {
           low = low;
-          room = line-room a b (p .rises) v from h 1000000000 (stepOf a b) (partOf a b) change power rest l power′ rest′ e k;
-          next = line-next a b (p .rises) v from h 1000000000 (stepOf a b) (partOf a b) change power rest l power′ rest′ e k;
+          room = line-room a b v from h 1000000000 (stepOf a b) (partOf a b) change power rest l power′ rest′ e k;
+          next = line-next a b v from h 1000000000 (stepOf a b) (partOf a b) change power rest l power′ rest′ e k;
         }

@@ -50,30 +50,34 @@ power-on reference.below power e = let z : _≡_ {A = ℕ} 0 1 = cc in absurd (o
 power-on (reference.on p) power e = ap (λ (w : Watt). w .0) (cc)
 power-on reference.above power e = let z : _≡_ {A = ℕ} 0 1 = cc in absurd (omega arith)
 
-module _ (curve : Curve) (table : List ℕ) (v : ℕ) (x : CurveReading) (e : x ≡ readingAnswer (tableReading curve table v)) where
-  pub on-natural : (power : Watt) → x ≡ On power → power .0 ≡ pos (orZero (power .0))
-  on-natural power t = let p = power-on (tableReading curve table v) power (sym t ∙ e) in p ∙ ap (λ (z : ℤ). pos (orZero z)) (sym p)
+-- what the contract of `power_at` says of a power z
+abbrev pub PowerAt : Curve → List ℕ → ℕ → ℤ → Type 0
+PowerAt curve table v z =
+    ((points : List Point) → Tabulates curve table points → z ≡ pos (curvePower points v)) × (z ≡ pos (orZero z)) × (orZero z ≤ 1000000000)
 
-  module _ (low : Low table) (h : v ≤ 1000) where
-    low-power : powerOf (tableReading curve table v) ≤ 1000000000
-    low-power = go (ltb v (curve .first)) (ltb (curve .last) v)
-      where
-        go : (t u : Bool) → powerOf (cond t reference.below (cond u reference.above (reference.on (getD table v 0)))) ≤ 1000000000
-        go true u = omega arith
-        go false true = omega arith
-        go false false = low v
+module _ (curve : Curve) (table : List ℕ) (v : ℕ) (x : CurveReading) (e : x ≡ readingAnswer (tableReading curve table v)) (low : Low table)
+    (h : v ≤ 1000) where
+  low-power : powerOf (tableReading curve table v) ≤ 1000000000
+  low-power = go (ltb v (curve .first)) (ltb (curve .last) v)
+    where
+      go : (t u : Bool) → powerOf (cond t reference.below (cond u reference.above (reference.on (getD table v 0)))) ≤ 1000000000
+      go true u = omega arith
+      go false true = omega arith
+      go false false = low v
 
-    says : (r : ℕ) → r ≡ powerOf (tableReading curve table v)
-        → ((points : List Point) → Tabulates curve table points → r ≡ curvePower points v) × (r ≤ 1000000000)
-    unfolding curvePower
-    says r p = ((λ points t. p ∙ ap powerOf (t .agrees v h)), omega (arith, low-power))
+  says : (z : ℤ) → z ≡ pos (powerOf (tableReading curve table v)) → PowerAt curve table v z
+  unfolding curvePower
+  says z p = (
+    (λ points t. p ∙ ap (λ (r : reference.CurveReading). pos (powerOf r)) (t .agrees v h)),
+    p ∙ ap (λ (y : ℤ). pos (orZero y)) (sym p),
+    rw p low-power,
+  )
 
-    pub says-below : x ≡ Below → ((points : List Point) → Tabulates curve table points → 0 ≡ curvePower points v) × (0 ≤ 1000000000)
-    says-below t = says 0 (power-below (tableReading curve table v) (sym t ∙ e))
+  pub says-below : x ≡ Below → PowerAt curve table v (pos 0)
+  says-below t = says (pos 0) (ap pos (power-below (tableReading curve table v) (sym t ∙ e)))
 
-    pub says-above : x ≡ Above → ((points : List Point) → Tabulates curve table points → 0 ≡ curvePower points v) × (0 ≤ 1000000000)
-    says-above t = says 0 (power-above (tableReading curve table v) (sym t ∙ e))
+  pub says-above : x ≡ Above → PowerAt curve table v (pos 0)
+  says-above t = says (pos 0) (ap pos (power-above (tableReading curve table v) (sym t ∙ e)))
 
-    pub says-on : (power : Watt) (r : ℕ) → x ≡ On power → r ≡ orZero (power .0)
-        → ((points : List Point) → Tabulates curve table points → r ≡ curvePower points v) × (r ≤ 1000000000)
-    says-on power r t u = says r (u ∙ ap orZero (power-on (tableReading curve table v) power (sym t ∙ e)))
+  pub says-on : (power : Watt) → x ≡ On power → PowerAt curve table v (power .0)
+  says-on power t = says (power .0) (power-on (tableReading curve table v) power (sym t ∙ e))

@@ -53,7 +53,7 @@ module _ (a : Point) (p : PointsRead) (table : List ℕ) where
 -- the word at 8, the power at 12, and the results of their tests
 pub record Tested (r : List ℕ) (word : ℕ) (power : ℤ) (t u : Bool) : Type 0 where
   pub word-is : word ≡ linkAt r 8
-  pub power-is : power ≡ twos (linkAt r 12)
+  pub power-is : power ≡ fieldAt r 12
   pub speed-test : t ≡ isSpeed (twos word)
   pub power-test : u ≡ isCurvePower power
 

@@ -2,7 +2,9 @@
 ghost use mathlib.Core.Path.{_≡_};
 ghost use mathlib.Core.List.{List};
 ghost use Prim.Native.Nat.{_-_, _≤_, _<_};
+ghost use lib.IntN.{pos};
 ghost use lib.ListN.{length};
+ghost use Rattle.rules.specs.Numbers.{orZero};
 ghost use Rattle.rules.specs.Terms.{Point};
 ghost use Rattle.rules.specs.Reference.{curvePower};
 ghost use Rattle.rules.specs.Settle.{pointsOf};
@@ -35,10 +37,10 @@ pub fn read_curve(curve: Curve, table: &[u64], speed: Speed) -> CurveReading
     requires { ⌜ (length (now table) ≡ 1001) × Low (now table) × (speed .0 ≤ 1000) ⌝ }
     ensures { λ r. ⌜ r ≡ readingAnswer (tableReading curve (now (table .entry)) (speed .0)) ⌝ }
 {
-    if speed.0 < curve.first {
+    if units::is_below(speed, Speed(curve.first)) {
         return CurveReading::Below;
     }
-    if curve.last < speed.0 {
+    if units::is_below(Speed(curve.last), speed) {
         return CurveReading::Above;
     }
     let i = speed.0 as usize;
@@ -46,16 +48,16 @@ pub fn read_curve(curve: Curve, table: &[u64], speed: Speed) -> CurveReading
 }
 
 // Below the first point and above the last, 0.
-pub fn power_at(curve: Curve, table: &[u64], speed: Speed) -> u64
+pub fn power_at(curve: Curve, table: &[u64], speed: Speed) -> Watt
     requires { ⌜ (length (now table) ≡ 1001) × Low (now table) × (speed .0 ≤ 1000) ⌝ }
-    ensures { λ r. ⌜ ((points : List Point) → Tabulates curve (now (table .entry)) points → r ≡ curvePower points (speed .0))
-        × (r ≤ 1000000000) ⌝ }
+    ensures { λ r. ⌜ ((points : List Point) → Tabulates curve (now (table .entry)) points → r .0 ≡ pos (curvePower points (speed .0)))
+        × (r .0 ≡ pos (orZero (r .0))) × (orZero (r .0) ≤ 1000000000) ⌝ }
 {
     let reading = read_curve(curve, table, speed);
     match reading {
-        CurveReading::Below => 0,
-        CurveReading::On(power) => units::unsigned(power),
-        CurveReading::Above => 0,
+        CurveReading::Below => Watt(0),
+        CurveReading::On(power) => power,
+        CurveReading::Above => Watt(0),
     }
 }
 
@@ -126,7 +128,7 @@ fn read_point(r: &[u8], read: PointsRead, table: &mut [u64]) -> PointsRead
     ensures { λ p. ⌜ walk p (now (table .exit)) ≡ withRecord (now (r .entry)) (walk read (now (table .entry))) ⌝ }
 {
     let speed = archive::link_at(r, 8);
-    let power = units::watt_of(archive::link_at(r, 12));
+    let power = archive::watt_at(r, 12);
     let mut next = read;
     next.count = read.count + 1;
     if units::is_speed(speed) & units::is_curve_power(power) {

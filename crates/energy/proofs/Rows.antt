@@ -1,8 +1,9 @@
 -- The rows of the plant factor, in the order in which the code tests them.
-use mathlib.Core.Path.{_≡_}
+use mathlib.Core.Path.{_≡_, _∙_, ap}
 use mathlib.Core.Bool.{Bool, true, false, Bool·beq, _&&_, _||_}
-use Prim.Native.Nat.{ℕ, _+_, _≤_, _<_}
-use native.Mathlib.Numerals.{add-one}
+use mathlib.Core.List.{_∷_}
+use Prim.Native.Nat.{ℕ, suc, _-_, _≤_, _<_}
+use native.Mathlib.Omega.{arith}
 use borrow.Author.Tests.{lt-ltb, le-ltb}
 use lib.Dec.{leb, ltb}
 use lib.Seq.{drop-cons}
@@ -40,11 +41,16 @@ module _ (r : FactorRow) (summer : Bool) (q : ℕ) where
 abbrev none : FactorRow
 none = record { summer = false; from = 0; until = 0; factor = 0 }
 
-module _ (summer : Bool) (q i : ℕ) (h : i < 8) where
-  pub row-taken : isFor summer q (getD factorRows i none) ≡ true → firstFor summer q (drop i factorRows) ≡ getD factorRows i none .factor
+-- the row before place i, which the code comes to next
+module _ (summer : Bool) (q i : ℕ) (h : 0 < i) (k : i ≤ 8) where
+  from-row : drop (i - 1) factorRows ≡ getD factorRows (i - 1) none ∷ drop i factorRows
   unfolding factorRows
-  row-taken e = rw (drop-cons factorRows i none h, e)
+  from-row =
+      let e : suc (i - 1) ≡ i = omega arith in
+      drop-cons factorRows (i - 1) none (omega arith) ∙ ap (λ (n : ℕ). getD factorRows (i - 1) none ∷ drop n factorRows) e
 
-  pub row-left : isFor summer q (getD factorRows i none) ≡ false → firstFor summer q (drop i factorRows) ≡ firstFor summer q (drop (i + 1) factorRows)
-  unfolding factorRows
-  row-left e = rw (add-one i, drop-cons factorRows i none h, e)
+  pub row-taken : isFor summer q (getD factorRows (i - 1) none) ≡ true → getD factorRows (i - 1) none .factor ≡ firstFor summer q (drop (i - 1) factorRows)
+  row-taken e = rw (from-row, e)
+
+  pub row-left : isFor summer q (getD factorRows (i - 1) none) ≡ false → firstFor summer q (drop i factorRows) ≡ firstFor summer q (drop (i - 1) factorRows)
+  row-left e = rw (from-row, e)

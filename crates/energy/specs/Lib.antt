@@ -1,3 +1,2 @@
 pub mod Carrying
-pub mod Held
 pub mod References

@@ -2,34 +2,33 @@
 use Prim.Native.Nat.{ℕ, _≤_, _<_}
 use mathlib.Core.List.{List}
 use mathlib.Core.Path.{_≡_}
-use lib.IntN.{pos, subℕ}
+use lib.IntN.{ℤ, pos}
+use lib.Signed.{mag}
+use Rattle.rules.specs.Numbers.{orZero}
 use Rattle.rules.specs.Terms.{Point}
 use Rattle.rules.specs.Reference as book
 use Rattle.energy.specs.declared.reference.Reference.{Reference}
 use Rattle.energy.specs.declared.reference.Reference.the-variants.{OnCurve, LastMeasured, OnIrradiance, ByFactor, AsPlanned}
 
--- what is added to A of solar Spitz: 96 before-quarters of 1,000,000,000 W
-abbrev pub sumBias : ℕ
-sumBias = 96000000000
-
--- what is added to a power
-abbrev pub powerBias : ℕ
-powerBias = 1000000000
-
 -- the reference of the rule book, with the points of the plant's curve
 abbrev pub meaning : Reference → List Point → book.Reference
-meaning (OnCurve a b pn) points = book.onCurve (pos a) b pn points
-meaning (LastMeasured p0) points = book.lastMeasured (subℕ p0 powerBias)
-meaning (OnIrradiance a b) points = book.onIrradiance (subℕ a sumBias) b
-meaning (ByFactor pn) points = book.byFactor pn
+meaning (OnCurve a b pn) points = book.onCurve (a .0) (orZero (b .0)) (orZero (pn .0)) points
+meaning (LastMeasured p0) points = book.lastMeasured (p0 .0)
+meaning (OnIrradiance a b) points = book.onIrradiance (a .0) (b .0)
+meaning (ByFactor pn) points = book.byFactor (orZero (pn .0))
 meaning AsPlanned points = book.asPlanned
+
+-- 0 to n
+pub record UpTo (n : ℕ) (z : ℤ) : Type 0 where
+  pub is : z ≡ pos (orZero z)
+  pub low : orZero z ≤ n
 
 -- its numbers are in the ranges that the rules leave
 abbrev pub Bounded : Reference → Type 0
-Bounded (OnCurve a b pn) = (a ≤ 4000000000) × (0 < b) × (b ≤ 4000000000) × (pn ≤ 1000000000)
-Bounded (LastMeasured p0) = p0 ≤ 2000000000
-Bounded (OnIrradiance a b) = (a ≤ 192000000000) × (0 < b) × (b ≤ 192000)
-Bounded (ByFactor pn) = pn ≤ 1000000000
+Bounded (OnCurve a b pn) = UpTo 4000000000 (a .0) × UpTo 4000000000 (b .0) × (0 < orZero (b .0)) × UpTo 1000000000 (pn .0)
+Bounded (LastMeasured p0) = mag (p0 .0) ≤ 1000000000
+Bounded (OnIrradiance a b) = (mag (a .0) ≤ 96000000000) × (0 < b .0) × (b .0 ≤ 192000)
+Bounded (ByFactor pn) = UpTo 1000000000 (pn .0)
 Bounded AsPlanned = Unit {0}
 
 -- D, the one denominator of every T of the measure, whatever the curve's points

@@ -4,9 +4,10 @@ ghost use Prim.Native.Nat.{_<_, _≤_, _/_, _^_};
 ghost use mathlib.Core.List.{_++_};
 ghost use lib.ListN.{length, drop};
 ghost use Rattle.rules.specs.Numbers.{sum, sumℤ};
-ghost use Rattle.rules.specs.Booking.{signed as signedOf, amountsOf};
+ghost use Rattle.rules.specs.Booking.{amountsOf};
 ghost use Rattle.energy.specs.Carrying.{carryOf, bookedOf};
 use rules::Direction;
+use units::WattHour;
 
 // What is carried on to the next quarter, less than 1 Wh: `remainder` over `denominator`.
 pub struct Carry {
@@ -19,14 +20,28 @@ pub struct Booked {
     pub carry: Carry,
 }
 
+// n / d. The two denominators that the rules fix, 4 × 1 and 4 × 10,000, are divided by as constants, which is quicker.
+fn quotient(n: u64, d: u64) -> u64
+    requires { ⌜ 0 < d ⌝ }
+    ensures { λ q. ⌜ q ≡ n / d ⌝ }
+{
+    if d == 4 {
+        return n / 4;
+    }
+    if d == 40000 {
+        return n / 40000;
+    }
+    n / d
+}
+
 // One magnitude booked, by value. The division is the magnitude's alone, so that it doesn't wait for the quarter before.
 pub fn booking(c: Carry, magnitude: u64) -> Booked
     requires { ⌜ (c .remainder < c .denominator) × (c .denominator ≤ 2 ^ 63) ⌝ }
     ensures { λ r. ⌜ r ≡ bookedOf c magnitude ⌝ }
 {
     let d = c.denominator;
-    let whole = magnitude / d;
-    let rest = c.remainder + magnitude % d;
+    let whole = quotient(magnitude, d);
+    let rest = c.remainder + (magnitude - whole * d);
     if rest < d {
         let carry = Carry {
             remainder: rest,
@@ -82,23 +97,11 @@ pub fn book_step(remainder: u64, denominator: u64, magnitude: u64) -> Step
     }
 }
 
-// Minus for the positive direction.
-pub fn signed(direction: Direction, amount: u64) -> i64
-    requires { ⌜ amount < 2 ^ 63 ⌝ }
-    ensures { λ r. ⌜ r ≡ signedOf direction amount ⌝ }
-{
-    let a = amount as i64;
-    match direction {
-        Direction::Positive => -a,
-        Direction::Negative => a,
-    }
-}
-
 // The amounts of a sheet of exact magnitudes, into the list's first places, and their total.
-pub fn book_all(direction: Direction, denominator: u64, sheet: &[u64], list: &mut [i64]) -> i64
+pub fn book_all(direction: Direction, denominator: u64, sheet: &[u64], list: &mut [i64]) -> WattHour
     requires { ⌜ (0 < denominator) × (denominator ≤ 2 ^ 63) × (sum (now sheet) / denominator < 2 ^ 63) × (length (now sheet) ≤ length (now list)) ⌝ }
     ensures { λ r. ⌜ (now (list .exit) ≡ amountsOf direction denominator (now (sheet .entry)) ++ drop (length (now (sheet .entry))) (now (list .entry)))
-        × (r ≡ sumℤ (amountsOf direction denominator (now (sheet .entry)))) ⌝ }
+        × (r .0 ≡ sumℤ (amountsOf direction denominator (now (sheet .entry)))) ⌝ }
 {
     let mut carry = Carry {
         remainder: 0,
@@ -108,9 +111,9 @@ pub fn book_all(direction: Direction, denominator: u64, sheet: &[u64], list: &mu
     let mut i: usize = 0;
     while i < sheet.len() {
         let amount = book(&mut carry, sheet[i]);
-        list[i] = signed(direction, amount);
+        list[i] = units::booked(direction, amount).0;
         total += amount;
         i += 1;
     }
-    signed(direction, total)
+    units::booked(direction, total)
 }

@@ -76,19 +76,21 @@ fn is_for(r: FactorRow, summer: bool, quarter: u64) -> bool
     }
 }
 
-// The factor of the first row that is for the month's season and the quarter of the day.
+// The factor of the first row that is for the month's season and the quarter of the day. From the last row to the first and without a
+// way out, so that the rows compile to constants and no table is laid out at a call.
 pub fn plant_factor(month: u64, quarter: u64) -> u64
     ensures { λ f. ⌜ f ≡ plantFactor month quarter ⌝ }
 {
     let summer = is_summer(month);
     let rows = ROWS;
-    let mut i: usize = 0;
-    while i < 8 {
+    let mut factor: u64 = 0;
+    let mut i: usize = 8;
+    while 0 < i {
+        i -= 1;
         let r = rows[i];
         if is_for(r, summer, quarter) {
-            return r.factor;
+            factor = r.factor;
         }
-        i += 1;
     }
-    0
+    factor
 }

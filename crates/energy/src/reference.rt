@@ -1,16 +1,18 @@
 // How a measure's reference power T is found (document 01, 'Reference power T').
 ghost use Rattle.energy.specs.References.{Bounded, Divides};
+use units::Irradiance;
+use units::Watt;
 
-// With what the plant and the before-quarters give; powers that may be negative are held raised.
+// With what the plant and the before-quarters give.
 pub enum Reference {
     // wind Spitz: A, B and Pn
-    OnCurve(u64, u64, u64),
-    // wind and other Pauschal: P0, raised by 1,000,000,000
-    LastMeasured(u64),
-    // solar Spitz: A, raised by 96,000,000,000, and B
-    OnIrradiance(u64, u64),
+    OnCurve(Watt, Watt, Watt),
+    // wind and other Pauschal: P0
+    LastMeasured(Watt),
+    // solar Spitz: A and B
+    OnIrradiance(Watt, Irradiance),
     // solar Pauschal: Pn
-    ByFactor(u64),
+    ByFactor(Watt),
     // other Spitz
     AsPlanned,
 }
@@ -21,9 +23,9 @@ pub fn denominator(reference: Reference) -> u64
     ensures { λ d. ⌜ Divides reference d ⌝ }
 {
     match reference {
-        Reference::OnCurve(_, b, _) => b,
+        Reference::OnCurve(_, b, _) => units::unsigned(b),
         Reference::LastMeasured(_) => 1,
-        Reference::OnIrradiance(_, b) => b,
+        Reference::OnIrradiance(_, b) => b.0,
         Reference::ByFactor(_) => 10000,
         Reference::AsPlanned => 1,
     }

@@ -2,12 +2,13 @@
 use mathlib.Core.Path.{_≡_, refl, sym, _∙_, ap, subst}
 use mathlib.Core.Bool.{Bool, true, false, _&&_}
 use mathlib.Core.List.{List, [], _∷_, _++_, append-nil}
-use Prim.Native.Nat.{ℕ, _*_, _/_, _≤_, _<_}
+use Prim.Native.Nat.{ℕ, _*_, _/_, _≤_, _<_, min}
 use native.Mathlib.Omega.{arith}
 use borrow.Author.Tests.{le-leb, lt-leb, ne-eqb}
 use lib.Dec.{eqb, leb}
 use lib.IntN.{pos}
 use lib.ListN.{length, take, drop}
+use lib.Seq.{length-take-le}
 use Rattle.rules.specs.Outcome.{Outcome, refused, given, _>>=_, _>>_, require, numberOf}
 use Rattle.rules.specs.Refusals.{noRoom, settleRefusals}
 use Rattle.rules.specs.Numbers.{sumℤ}
@@ -21,7 +22,7 @@ use Rattle.settle.specs.declared.Measure.{Measure}
 use Rattle.settle.specs.declared.Prepared.{Prepared}
 use Rattle.settle.specs.declared.Prepared.the-variants as prepared
 use Rattle.settle.specs.Answers.{Stands, Prepares}
-use Rattle.settle.proofs.Laws.{sheet-length, count-is, not-ready}
+use Rattle.settle.proofs.Laws.{not-ready}
 use Rattle.host.proofs.Numbers.{number-small}
 
 module _ (archive : List ℕ) (p k : ℕ) (list result : List ℕ) where
@@ -40,9 +41,6 @@ module _ (archive : List ℕ) (p k : ℕ) (list result : List ℕ) where
   not-settled n e = rw e
 
   module _ (sheet : List ℕ) (m : Measure) (s : Stands (settled archive p k) sheet m) where
-    counted : countOf (s .settlement) ≡ m .count
-    counted = count-is archive p k [] sheet m s
-
     tested : (t : Bool) → (leb (countOf (s .settlement)) (length list / 8) && eqb (length result) 24) ≡ t
         → hostSettle archive p k (length list) (length result) ≡ (require t noRoom >> given (s .settlement))
     unfolding hostSettle _>>=_
@@ -53,37 +51,41 @@ module _ (archive : List ℕ) (p k : ℕ) (list result : List ℕ) where
     no-room e = by-outcome (refused noRoom) list result noRoom (tested false e) refl refl refl
 
     pub list-short : length list / 8 < m .count → HostSettles archive p k list list result result noRoom
-    list-short h = no-room (rw (lt-leb (countOf (s .settlement)) (length list / 8) (omega (arith, counted))))
+    list-short h = no-room (rw (lt-leb (countOf (s .settlement)) (length list / 8) (omega (arith, s .counted))))
 
     pub result-wrong : m .count ≤ length list / 8 → (length result ≡ 24 → ⊥) → HostSettles archive p k list list result result noRoom
     result-wrong h f =
-        no-room (rw (le-leb (countOf (s .settlement)) (length list / 8) (omega (arith, counted))) (ne-eqb (length result) 24 f))
+        no-room (rw (le-leb (countOf (s .settlement)) (length list / 8) (omega (arith, s .counted))) (ne-eqb (length result) 24 f))
 
-    -- the sheet's part that is booked
-    sheet-counted : length (take (m .count) sheet) ≡ m .count
-    sheet-counted = sheet-length archive p k [] sheet m s
+    -- a sheet that has a place for each quarter that the list can take
+    module _ (room : min (length list / 8) 2976 ≤ length sheet) (h : m .count ≤ length list / 8) where
+      pub in-sheet : m .count ≤ length sheet
+      in-sheet = omega (arith, s .few)
 
-    pub list-long : m .count ≤ length list / 8 → 8 * length (take (m .count) sheet) ≤ length list
-    list-long h = omega (arith, sheet-counted)
+      pub sheet-length : length (take (m .count) sheet) ≡ m .count
+      sheet-length = length-take-le (m .count) sheet in-sheet
 
-    -- the amounts and the three results written
-    pub all-written : m .count ≤ length list / 8 → length result ≡ 24 → (laterList laterResult : List ℕ) (total bitsOfTotal : ℕ)
-        → laterList ≡ encoded (amountsOf (m .direction) (m .denominator) (take (m .count) sheet)) ++ drop (8 * length (take (m .count) sheet)) list
-        → signed (m .direction) total ≡ sumℤ (amountsOf (m .direction) (m .denominator) (take (m .count) sheet))
-        → bitsOfTotal ≡ bits (signed (m .direction) total)
-        → laterResult ≡ doubleWord (m .count) ++ (doubleWord bitsOfTotal ++ doubleWord (m .links))
-        → HostSettles archive p k list laterList result laterResult 0
-    unfolding _>>_ require encoded
-    all-written h n laterList laterResult total bitsOfTotal l t b r =
-        by-outcome (given (s .settlement)) laterList laterResult 0
-        (tested true (rw (le-leb (countOf (s .settlement)) (length list / 8) (omega (arith, counted)), n)))
-        refl
-        (l ∙ rw (sheet-counted, counted, s .amounts-are))
-        (r ∙ results)
-      where
-        results : doubleWord (m .count) ++ (doubleWord bitsOfTotal ++ doubleWord (m .links))
-            ≡ encoded (pos (countOf (s .settlement)) ∷ sumℤ (s .settlement .amounts) ∷ pos (s .settlement .links) ∷ [])
-        results = rw (b, t, counted, s .amounts-are, s .links-are, append-nil)
+      pub list-long : 8 * length (take (m .count) sheet) ≤ length list
+      list-long = omega (arith, sheet-length)
+
+      -- the amounts and the three results written
+      pub all-written : length result ≡ 24 → (laterList laterResult : List ℕ) (total bitsOfTotal : ℕ)
+          → laterList ≡ encoded (amountsOf (m .direction) (m .denominator) (take (m .count) sheet)) ++ drop (8 * length (take (m .count) sheet)) list
+          → signed (m .direction) total ≡ sumℤ (amountsOf (m .direction) (m .denominator) (take (m .count) sheet))
+          → bitsOfTotal ≡ bits (signed (m .direction) total)
+          → laterResult ≡ doubleWord (m .count) ++ (doubleWord bitsOfTotal ++ doubleWord (m .links))
+          → HostSettles archive p k list laterList result laterResult 0
+      unfolding _>>_ require encoded
+      all-written n laterList laterResult total bitsOfTotal l t b r =
+          by-outcome (given (s .settlement)) laterList laterResult 0
+          (tested true (rw (le-leb (countOf (s .settlement)) (length list / 8) (omega (arith, s .counted)), n)))
+          refl
+          (l ∙ rw (sheet-length, s .counted, s .amounts-are in-sheet))
+          (r ∙ results)
+        where
+          results : doubleWord (m .count) ++ (doubleWord bitsOfTotal ++ doubleWord (m .links))
+              ≡ encoded (pos (countOf (s .settlement)) ∷ sumℤ (s .settlement .amounts) ∷ pos (s .settlement .links) ∷ [])
+          results = rw (b, t, s .counted, s .amounts-are in-sheet, s .links-are, append-nil)
 
 -- ---- by the answer of the tests
 

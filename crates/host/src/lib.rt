@@ -1,7 +1,7 @@
 // The calls for the operator's host, written in C (document 01, 'Calls on the archive'); include/sandegmur.h declares them.
 ghost use mathlib.Core.Path.{_≡_};
 ghost use mathlib.Core.List.{_++_, _∷_, []};
-ghost use Prim.Native.Nat.{_+_, _*_, _/_, _<_, _≤_, _^_};
+ghost use Prim.Native.Nat.{_+_, _*_, _/_, _<_, _≤_, _^_, min};
 ghost use lib.IntN.{pos};
 ghost use lib.ListN.{length, drop};
 ghost use Rattle.rules.specs.Numbers.{sum, sumℤ};
@@ -87,7 +87,8 @@ fn put_result(result: &mut [u8], count: u64, total: u64, links: u64)
     put_place(result, 2, links);
 }
 
-// Nothing lent is written before every test has passed: 13 last, for the list and for the result part.
+// Nothing lent is written before every test has passed: 13 last, for the list and for the result part. The sheet has a place for each
+// quarter that the list can take.
 fn settle_on(
     archive: &[u8],
     p: u64,
@@ -96,7 +97,7 @@ fn settle_on(
     result: &mut [u8],
     sheet: &mut [u64],
 ) -> u32
-    requires { ⌜ length (now sheet) ≡ 2976 ⌝ }
+    requires { ⌜ min (length (now list) / 8) 2976 ≤ length (now sheet) ⌝ }
     ensures { λ r. ⌜ HostSettles (now (archive .entry)) p k (now (list .entry)) (now (list .exit)) (now (result .entry)) (now (result .exit)) r ⌝ }
 {
     let measure = match settle::prepare(archive, p, k, sheet) {
@@ -126,6 +127,10 @@ fn settle_on(
 pub extern "C" fn settle(archive: &[u8], p: u64, k: u64, list: &mut [u8], result: &mut [u8]) -> u32
     ensures { λ r. ⌜ HostSettles (now (archive .entry)) p k (now (list .entry)) (now (list .exit)) (now (result .entry)) (now (result .exit)) r ⌝ }
 {
+    if list.len() / 8 <= 96 {
+        let mut sheet = [0u64; 96];
+        return settle_on(archive, p, k, list, result, &mut sheet);
+    }
     let mut sheet = [0u64; 2976];
     settle_on(archive, p, k, list, result, &mut sheet)
 }

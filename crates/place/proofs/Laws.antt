@@ -10,7 +10,7 @@ use lib.ListN.{take, drop}
 use Rattle.rules.specs.Outcome.{Outcome, refused, given, _>>=_, _>>_, require}
 use Rattle.rules.specs.Refusals.{notArchive, noPlant, noMeasure, badPlant, badMeasure}
 use Rattle.rules.specs.Numbers.{orZero}
-use Rattle.rules.specs.Archive.{byteAt, linkAt, twos, fieldAt, recordAt, usedOf, Entry, entryAt, atPlace, plantKind, measureKind}
+use Rattle.rules.specs.Archive.{byteAt, fieldAt, recordAt, usedOf, Entry, entryAt, atPlace, plantKind, measureKind}
 use Rattle.rules.specs.Terms.{isNominalPower, nominalPower, plantAllowed, measureAllowed}
 use Rattle.rules.specs.Settle as settle
 use Rattle.rules.specs.Settle.{placeOf}
@@ -28,11 +28,6 @@ use Rattle.place.specs.declared.Placed.the-variants.{At, Refused}
 use Rattle.place.specs.Places.{meant, Lies, numbersOf, placedAnswer, reachRefusal, plantAt, measureAt, admitted, placeUnder}
 
 -- ---- Pn
-
--- a field, from its word
-pub field-is : (r : List ℕ) (at word : ℕ) (z : ℤ) → z ≡ twos word → word ≡ linkAt r at → z ≡ fieldAt r at
-unfolding fieldAt
-field-is r at word z a b = a ∙ ap twos b
 
 -- of a plant that refusal 6 lets pass
 module _ (plant : List ℕ) (allowed : plantAllowed plant ≡ true) (z : ℤ) (is : z ≡ fieldAt plant 16) where

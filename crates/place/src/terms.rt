@@ -2,12 +2,14 @@
 ghost use mathlib.Core.Path.{_≡_};
 ghost use mathlib.Core.Bool.{true};
 ghost use Prim.Native.Nat.{_≤_};
+ghost use lib.IntN.{pos};
 ghost use lib.ListN.{length};
 ghost use Rattle.rules.specs.Terms.{technologyOf, variantOf, directionOf, executionOf, nominalPower, plantAllowed, measureAllowed};
 use rules::Direction;
 use rules::Execution;
 use rules::Technology;
 use rules::Variant;
+use units::Watt;
 
 pub fn technology_of(plant: &[u8]) -> Technology
     requires { ⌜ length (now plant) ≡ 32 ⌝ }
@@ -74,7 +76,7 @@ pub fn plant_allowed(plant: &[u8]) -> bool
     if 2 < variant {
         return false;
     }
-    units::is_nominal_power(units::watt_of(archive::link_at(plant, 16)))
+    units::is_nominal_power(archive::watt_at(plant, 16))
 }
 
 // What refusal 7 tests; positive redispatch exists for technology 3 only.
@@ -103,9 +105,9 @@ pub fn measure_allowed(plant: &[u8], measure: &[u8]) -> bool
 }
 
 // Pn of a plant that refusal 6 lets pass.
-pub fn nominal_power(plant: &[u8]) -> u64
+pub fn nominal_power(plant: &[u8]) -> Watt
     requires { ⌜ (length (now plant) ≡ 32) × (plantAllowed (now plant) ≡ true) ⌝ }
-    ensures { λ r. ⌜ (r ≡ nominalPower (now (plant .entry))) × (r ≤ 1000000000) ⌝ }
+    ensures { λ r. ⌜ (r .0 ≡ pos (nominalPower (now (plant .entry)))) × (nominalPower (now (plant .entry)) ≤ 1000000000) ⌝ }
 {
-    units::unsigned(units::watt_of(archive::link_at(plant, 16)))
+    archive::watt_at(plant, 16)
 }

@@ -1,38 +1,41 @@
--- Limitation value, reference power and exact magnitude of a quarter from numbers held without a sign, over plain variables.
+-- Limitation value, reference power and exact magnitude of a quarter, over plain variables.
 use mathlib.Core.Path.{_≡_, refl, sym, _∙_, ap, subst, ap₂}
 use mathlib.Core.Bool.{Bool, true, false, cond, not, _&&_}
 use mathlib.Core.List.{List, [], _∷_}
-use Prim.Native.Nat.{ℕ, _+_, _*_, _-_, _≤_, _<_, min}
+use Prim.Native.Nat.{ℕ, _+_, _*_, _-_, _≤_, _<_}
 use native.Mathlib.Nat.{mul-le-mul, mul-le-mul-right}
 use native.Mathlib.Omega.{arith}
 use borrow.Author.Tests.{le-leb, lt-leb, leb-true, not-true, not-false}
 use lib.Dec.{leb}
-use lib.IntN.{ℤ, pos, subℕ}
+use lib.IntN.{ℤ, pos, _*ℤ_}
+use lib.Signed.{leZ, mag}
 use Rattle.rules.specs.declared.Direction.{Direction}
 use Rattle.rules.specs.declared.Direction.the-variants.{Positive as positive, Negative as negative}
 use Rattle.rules.specs.declared.Execution.{Execution}
 use Rattle.rules.specs.declared.Execution.the-variants.{Requested as requested, Tolerated as tolerated, Fixed as fixed}
 use Rattle.rules.specs.declared.FactorRow.{FactorRow}
-use Rattle.rules.specs.Numbers.{orZero, all}
+use Rattle.rules.specs.Numbers.{orZero, smaller, larger, all}
 use Rattle.rules.specs.Terms.{isPower, isSpeed, isIrradiance, Point, Quarter}
 use Rattle.rules.specs.Reference as book
 use Rattle.rules.specs.Reference.{limitation, curvePower, factorRows, isFor, firstFor, plantFactor, denominator, numerator, magnitude, exactOf}
 use Rattle.rules.specs.Settle.{limitReadable, referenceReadable}
-use Rattle.rules.proofs.Ints.{under, biased-eq, biased-times, biased-minus-any, rebias}
+use Rattle.rules.proofs.Ints.{under, orZero-minus, orZero-times, under-times, mag-parts, parts-mag, mag-times}
 use Rattle.rules.proofs.Ranges.{within-natural, within-signed}
 use Rattle.rules.proofs.Sound.{both}
-use Rattle.rules.proofs.Biased.{heldLimit, limitation-held, curve-held, irradiance-held}
-use Rattle.energy.specs.Held.{powerHeld, numeratorHeld}
+use Rattle.rules.proofs.Biased.{curve-held}
+use Rattle.units.specs.declared.Watt.{Watt}
+use Rattle.units.specs.declared.Irradiance.{Irradiance}
 use Rattle.energy.specs.declared.reference.Reference.{Reference}
 use Rattle.energy.specs.declared.reference.Reference.the-variants.{OnCurve, LastMeasured, OnIrradiance, ByFactor, AsPlanned}
-use Rattle.energy.specs.References.{powerBias, sumBias, meaning, Bounded}
+use Rattle.energy.specs.References.{meaning, Bounded}
+use Rattle.energy.proofs.References.{power-small, divides}
 use Rattle.curve.specs.declared.Curve.{Curve}
 use Rattle.quarters.specs.declared.exact.Power.{Power}
 use Rattle.quarters.specs.declared.exact.Power.the-variants as power
 use Rattle.quarters.specs.declared.exact.Numerator.{Numerator}
 use Rattle.quarters.specs.declared.exact.Numerator.the-variants as over
 use Rattle.quarters.specs.declared.exact.Exact.the-variants as exact
-use Rattle.quarters.specs.Exacts.{Curved, RaisedFrom, LimitedTo, HeldAs, ReferredTo, quarterAnswer}
+use Rattle.quarters.specs.Exacts.{Curved, PowerOf, LimitedTo, ReferredTo, quarterAnswer}
 
 -- a test of a field, as the code asks it
 module _ (test : ℤ → Bool) {t : Bool} {a z : ℤ} (e : t ≡ test a) (i : a ≡ z) where
@@ -45,7 +48,7 @@ module _ (test : ℤ → Bool) {t : Bool} {a z : ℤ} (e : t ≡ test a) (i : a 
 -- ---- limitation value
 
 module _ (s : Direction) (x : Execution) (q : Quarter) where
-  pub limited-measured : RaisedFrom (q .measured) power.OutOfRange → LimitedTo s x q power.OutOfRange
+  pub limited-measured : PowerOf (q .measured) power.OutOfRange → LimitedTo s x q power.OutOfRange
   limited-measured e = go x
     where
       go : (x : Execution) → limitReadable x q ≡ false
@@ -53,7 +56,7 @@ module _ (s : Direction) (x : Execution) (q : Quarter) where
       go tolerated = e
       go fixed = e
 
-  module _ (m : ℕ) (h : RaisedFrom (q .measured) (power.Of m)) where
+  module _ (m : Watt) (h : PowerOf (q .measured) (power.Of m)) where
     pub limited-tolerated : x ≡ tolerated → LimitedTo s x q (power.Of m)
     unfolding limitation
     limited-tolerated e = rw e h
@@ -63,23 +66,28 @@ module _ (s : Direction) (x : Execution) (q : Quarter) where
     limited-fixed e = rw e h
 
     module _ (asked : x ≡ requested) where
-      pub limited-limit : RaisedFrom (q .limit) power.OutOfRange → LimitedTo s x q power.OutOfRange
+      pub limited-limit : PowerOf (q .limit) power.OutOfRange → LimitedTo s x q power.OutOfRange
       limited-limit e = rw (asked, h .0, e)
 
-      pub limited-requested : (l n : ℕ) → RaisedFrom (q .limit) (power.Of l) → n ≡ heldLimit s x m l → LimitedTo s x q (power.Of n)
-      limited-requested l n k i = rw i (rw (asked, h .0, k .0), rw (h .1, k .1) (limitation-held s x m l powerBias), go s x)
-        where
-          go : (s : Direction) (x : Execution) → heldLimit s x m l ≤ 2000000000
-          go positive requested = omega arith
-          go negative requested = omega arith
-          go s tolerated = h .2
-          go s fixed = h .2
+      pub limited-requested : (l n : Watt) → PowerOf (q .limit) (power.Of l) → n .0 ≡ limitation s x (m .0) (l .0) → LimitedTo s x q (power.Of n)
+      limited-requested l n k i = (rw (asked, h .0, k .0), i ∙ ap₂ (limitation s x) (h .1) (k .1))
+
+pick-small : (t : Bool) (a b : ℤ) (n : ℕ) → mag a ≤ n → mag b ≤ n → mag (cond t a b) ≤ n
+pick-small true a b n h k = h
+pick-small false a b n h k = k
+
+pub limit-small : (s : Direction) (x : Execution) (q : Quarter) → limitReadable x q ≡ true → mag (limitation s x (q .measured) (q .limit)) ≤ 1000000000
+unfolding limitation smaller larger
+limit-small s tolerated q e = power-small (q .measured) e
+limit-small s fixed q e = power-small (q .measured) e
+limit-small positive requested q e =
+    let b = both (isPower (q .measured)) (isPower (q .limit)) e in
+    pick-small (leZ (q .measured) (q .limit)) _ _ _ (power-small (q .measured) (b .0)) (power-small (q .limit) (b .1))
+limit-small negative requested q e =
+    let b = both (isPower (q .measured)) (isPower (q .limit)) e in
+    pick-small (leZ (q .measured) (q .limit)) _ _ _ (power-small (q .limit) (b .1)) (power-small (q .measured) (b .0))
 
 -- ---- reference power
-
--- a numerator that is 0 or more
-natural : (n : ℕ) → pos n ≡ subℕ n 0
-natural n = biased-eq n 0 (pos n) (omega arith)
 
 -- no factor is above 1
 pub factor-small : (month q : ℕ) → plantFactor month q ≤ 10000
@@ -97,36 +105,16 @@ factor-small month q = go (book.isSummer month) factorRows refl
         pick (isFor summer q r) (r .factor) (firstFor summer q rs) (h .0) (go summer rs (h .1))
 
 module _ (q : Quarter) where
-  module _ (a b pn : ℕ) (points : List Point) (h : Bounded (OnCurve a b pn)) where
-    pub curve-referred : (p t : ℕ) → isSpeed (q .weather) ≡ true → p ≡ curvePower points (orZero (q .weather)) → t ≡ min (a * p) (pn * b)
-        → ReferredTo (book.onCurve (pos a) b pn points) q (over.Of t 0)
-    curve-referred p t e i k =
-        let m : pn * b ≤ 1000000000 * b = mul-le-mul-right b (h .3) in (
-          e,
-          record {
-            is = curve-held q a b pn points ∙ ap (λ (n : ℕ). pos (min (a * n) (pn * b))) (sym i) ∙ ap pos (sym k) ∙ natural t;
-            above = omega arith;
-            below = omega arith;
-            fits = omega (arith, h .2);
-            small = omega arith;
-          },
-        )
+  pub curve-referred : (a b pn : Watt) (points : List Point) → Bounded (OnCurve a b pn) → (p t : ℤ) → isSpeed (q .weather) ≡ true
+      → p ≡ pos (curvePower points (orZero (q .weather))) → t ≡ smaller (a .0 *ℤ p) (pn .0 *ℤ b .0)
+      → ReferredTo (book.onCurve (a .0) (orZero (b .0)) (orZero (pn .0)) points) q (over.Of t)
+  unfolding numerator
+  curve-referred a b pn points h p t e i k = (e, k ∙ ap₂ smaller (ap (λ (z : ℤ). a .0 *ℤ z) i) (ap₂ _*ℤ_ (h .3 .is) (h .1 .is)))
 
-  module _ (a b : ℕ) (h : Bounded (OnIrradiance a b)) where
-    pub irradiance-referred : (g : ℕ) → isIrradiance (q .weather) ≡ true → g ≡ orZero (q .weather)
-        → ReferredTo (book.onIrradiance (subℕ a sumBias) b) q (over.Of (a * g) (96000000000 * g))
-    irradiance-referred g e i =
-        let w = within-natural 0 2000 (q .weather) e in
-        let m : a * g ≤ 192000000000 * g = mul-le-mul-right g (h .0) in (
-          e,
-          record {
-            is = irradiance-held q a sumBias b g (w .0 ∙ ap pos (sym i));
-            above = omega (arith, h .1);
-            below = omega (arith, h .1);
-            fits = omega arith;
-            small = omega arith;
-          },
-        )
+  pub irradiance-referred : (a : Watt) (b : Irradiance) (g : ℕ) (t : ℤ) → isIrradiance (q .weather) ≡ true → g ≡ orZero (q .weather) → t ≡ a .0 *ℤ pos g
+      → ReferredTo (book.onIrradiance (a .0) (b .0)) q (over.Of t)
+  unfolding numerator
+  irradiance-referred a b g t e i k = (e, k ∙ ap (λ (z : ℤ). a .0 *ℤ z) (ap pos i ∙ sym (within-natural 0 2000 (q .weather) e .0)))
 
   module _ (pn : ℕ) {month quarter : ℕ} (em : month ≡ q .month) (eq : quarter ≡ q .quarterOfDay) where
     pub factor-month-low : month < 1 → ReferredTo (book.byFactor pn) q over.OutOfRange
@@ -142,30 +130,18 @@ module _ (q : Quarter) where
       pub factor-readable : quarter ≤ 95 → referenceReadable (book.byFactor pn) q ≡ true
       factor-readable h = rw (← em, ← eq, le-leb 1 month low, le-leb month 12 high, le-leb quarter 95 h)
 
-  module _ (pn : ℕ) (h : Bounded (ByFactor pn)) where
-    pub factor-referred : (f : ℕ) → referenceReadable (book.byFactor pn) q ≡ true → f ≡ plantFactor (q .month) (q .quarterOfDay)
-        → ReferredTo (book.byFactor pn) q (over.Of (pn * f) 0)
-    unfolding numerator
-    factor-referred f e i =
-        let s : f ≤ 10000 = omega (arith, factor-small (q .month) (q .quarterOfDay)) in
-        let m : pn * f ≤ 1000000000 * 10000 = mul-le-mul h s in (
-          e,
-          record {
-            is = ap (λ (n : ℕ). pos (pn * n)) (sym i) ∙ natural (pn * f);
-            above = omega arith;
-            below = omega arith;
-            fits = omega arith;
-            small = omega arith;
-          },
-        )
-
-  pub planned-referred : (n : ℕ) → RaisedFrom (q .planned) (power.Of n) → ReferredTo book.asPlanned q (over.Of n powerBias)
+  pub factor-referred : (pn : Watt) → Bounded (ByFactor pn) → (f : ℕ) (t : ℤ) → referenceReadable (book.byFactor (orZero (pn .0))) q ≡ true
+      → f ≡ plantFactor (q .month) (q .quarterOfDay) → t ≡ pn .0 *ℤ pos f → ReferredTo (book.byFactor (orZero (pn .0))) q (over.Of t)
   unfolding numerator
-  planned-referred n h = (h .0, record { is = h .1; above = omega arith; below = omega arith; fits = omega arith; small = omega arith })
+  factor-referred pn h f t e i k = (e, k ∙ ap₂ _*ℤ_ (h .is) (ap pos i))
 
-  pub last-referred : (p0 : ℕ) → Bounded (LastMeasured p0) → ReferredTo (book.lastMeasured (subℕ p0 powerBias)) q (over.Of p0 powerBias)
+  pub planned-referred : (p : Watt) (t : ℤ) → PowerOf (q .planned) (power.Of p) → t ≡ p .0 → ReferredTo book.asPlanned q (over.Of t)
   unfolding numerator
-  last-referred p0 h = (refl, record { is = refl; above = omega arith; below = omega arith; fits = omega arith; small = omega arith })
+  planned-referred p t h e = (h .0, e ∙ h .1)
+
+  pub last-referred : (p0 : Watt) (t : ℤ) → t ≡ p0 .0 → ReferredTo (book.lastMeasured (p0 .0)) q (over.Of t)
+  unfolding numerator
+  last-referred p0 t e = (refl, e)
 
 -- by the variant that the code was told
 pub referred-told : {reference x : Reference} (e : reference ≡ x) (curve : Curve) (table : List ℕ) (points : List Point) (q : Quarter) (n : Numerator)
@@ -173,91 +149,87 @@ pub referred-told : {reference x : Reference} (e : reference ≡ x) (curve : Cur
 referred-told e curve table points q n f c =
     subst (λ (r : Reference). ReferredTo (meaning r points) q n) (sym e) (f (subst (λ (r : Reference). Curved r curve table points) e c))
 
+-- a numerator over d that 64 bits hold, with T at most 198,000,000,000,000 W away from 0
+pub record Small (d : ℕ) (t : ℤ) : Type 0 where
+  pub fits : mag t ≤ 4000000000000000000
+  pub near : mag t ≤ 198000000000000 * d
+
+pub numerator-small : (reference : Reference) (points : List Point) (q : Quarter) → Bounded reference → referenceReadable (meaning reference points) q ≡ true
+    → Small (denominator (meaning reference points)) (numerator (meaning reference points) q)
+unfolding numerator smaller
+numerator-small (OnCurve a b pn) points q h e =
+    let d : ℕ = orZero (b .0) in
+    let cap : orZero (pn .0) * d ≤ 1000000000 * d = mul-le-mul-right d (h .3 .low) in
+    subst (λ (z : ℤ). Small d (numerator (book.onCurve z d (orZero (pn .0)) points) q)) (sym (h .0 .is))
+    (subst (Small d) (sym (curve-held q (orZero (a .0)) d (orZero (pn .0)) points)) (record { fits = omega (arith, cap, h .1 .low); near = omega (arith, cap) }))
+numerator-small (LastMeasured p0) points q h e = record { fits = omega (arith, h); near = omega (arith, h) }
+numerator-small (OnIrradiance a b) points q h e =
+    let w = within-natural 0 2000 (q .weather) e in
+    let m : mag (a .0 *ℤ pos (orZero (q .weather))) < 96000000001 * 2000 + 1 = mag-times (a .0) (orZero (q .weather)) 96000000001 2000 (omega (arith, h .0)) (w .2) in
+    subst (λ (z : ℤ). Small (b .0) (a .0 *ℤ z)) (sym (w .0)) (record { fits = omega (arith, m); near = omega (arith, m, h .1) })
+numerator-small (ByFactor pn) points q h e =
+    let m : orZero (pn .0) * plantFactor (q .month) (q .quarterOfDay) ≤ 1000000000 * 10000 = mul-le-mul (h .low) (factor-small (q .month) (q .quarterOfDay)) in
+    record { fits = omega (arith, m); near = omega (arith, m) }
+numerator-small AsPlanned points q h e = let m = power-small (q .planned) e in record { fits = omega (arith, m); near = omega (arith, m) }
+
 -- ---- exact magnitude
 
--- as a difference of what is held, or 0
-abbrev difference : Direction → ℕ → ℕ → ℕ → ℕ → ℕ
-difference negative t low n d = t - (n * d + low)
-difference positive t low n d = (n * d + low) - t
+magnitude-bound : (s : Direction) (d : ℕ) (t l : ℤ) → mag t ≤ 198000000000000 * d → mag l ≤ 1000000000 → 0 < d → magnitude s d t l ≤ 200000000000000 * d
+unfolding magnitude
+magnitude-bound s d t l ht hl some = go s
+  where
+    tp : (orZero t < 198000000000000 * d + 1) × (under t ≤ 198000000000000 * d + 1)
+    tp = parts-mag t (omega (arith, ht))
 
-module _ (s : Direction) (d : ℕ) (z l : ℤ) (t low n : ℕ) (h : HeldAs d z t low) (e : l ≡ subℕ n powerBias) where
-  magnitude-held : magnitude s d z l ≡ difference s (t + powerBias * d) low n d
-  unfolding magnitude
-  magnitude-held = go s
-    where
-      go : (s : Direction) → magnitude s d z l ≡ difference s (t + powerBias * d) low n d
-      go negative = rw (h .is, e, biased-times n powerBias d) (biased-minus-any t low (n * d) (powerBias * d))
-      go positive = rw (h .is, e, biased-times n powerBias d) (biased-minus-any (n * d) (powerBias * d) t low)
+    lp : (orZero l < 1000000001) × (under l ≤ 1000000001)
+    lp = parts-mag l (omega (arith, hl))
 
-  magnitude-bound : n ≤ 2000000000 → magnitude s d z l ≤ 200000000000000 * d
-  magnitude-bound k = rw magnitude-held (go s)
-    where
-      m : n * d ≤ 2000000000 * d
-      m = mul-le-mul-right d k
+    above : orZero l * d ≤ 1000000001 * d
+    above = mul-le-mul-right d (omega (arith, lp .0))
 
-      go : (s : Direction) → difference s (t + powerBias * d) low n d ≤ 200000000000000 * d
-      go negative = omega (arith, m, h .above)
-      go positive = omega (arith, m, h .below)
+    below : under l * d ≤ 1000000001 * d
+    below = mul-le-mul-right d (lp .1)
+
+    go : (s : Direction) → magnitude s d t l ≤ 200000000000000 * d
+    go negative = omega (arith, orZero-minus t (l *ℤ pos d), orZero-times l d, under-times l d, tp .0, below, some)
+    go positive = omega (arith, orZero-minus (l *ℤ pos d) t, orZero-times l d, under-times l d, tp .1, above, some)
 
 module _ (s : Direction) (x : Execution) (r : book.Reference) (q : Quarter) where
   pub exact-unlimited : {p : Power} → p ≡ power.OutOfRange → LimitedTo s x q p → exact.OutOfRange ≡ quarterAnswer s x r q
   exact-unlimited i h = rw (subst (LimitedTo s x q) i h)
 
-  module _ {p : Power} {l : ℕ} (i : p ≡ power.Of l) (h : LimitedTo s x q p) where
+  module _ {p : Power} {l : Watt} (i : p ≡ power.Of l) (h : LimitedTo s x q p) where
     limit : LimitedTo s x q (power.Of l)
     limit = subst (LimitedTo s x q) i h
 
     pub exact-unreferred : {n : Numerator} → n ≡ over.OutOfRange → ReferredTo r q n → exact.OutOfRange ≡ quarterAnswer s x r q
     exact-unreferred j k = rw (limit .0, subst (ReferredTo r q) j k)
 
-    module _ {n : Numerator} {t low : ℕ} (j : n ≡ over.Of t low) (k : ReferredTo r q n) where
-      referred : ReferredTo r q (over.Of t low)
+    pub limited-small : mag (l .0) ≤ 1000000000
+    limited-small = subst (λ (z : ℤ). mag z ≤ 1000000000) (sym (limit .1)) (limit-small s x q (limit .0))
+
+    module _ {n : Numerator} {t : ℤ} (j : n ≡ over.Of t) (k : ReferredTo r q n) where
+      referred : ReferredTo r q (over.Of t)
       referred = subst (ReferredTo r q) j k
 
-      -- 64 bits are enough
-      pub exact-room : (l ≤ 2000000000) × (t ≤ 4000000000000000000) × (low ≤ 192000000000000)
-      exact-room = (limit .2, referred .1 .fits, referred .1 .small)
-
-      pub exact-is : {d m : ℕ} → d ≡ denominator r → m ≡ magnitude s d (numeratorHeld d (t + powerBias * d) low) (powerHeld l) → exact.Of m ≡ quarterAnswer s x r q
+      pub exact-is : {d m : ℕ} → d ≡ denominator r → m ≡ magnitude s d t (l .0) → exact.Of m ≡ quarterAnswer s x r q
       unfolding exactOf
-      exact-is e f =
-          rw (limit .0, referred .0, f, e)
-          (ap exact.Of (ap₂ (magnitude s (denominator r)) (sym (referred .1 .is ∙ rebias t low (powerBias * denominator r))) (sym (limit .1))))
+      exact-is e f = rw (limit .0, referred .0, f, e) (ap exact.Of (ap₂ (magnitude s (denominator r)) (referred .1) (limit .1)))
 
-      exact-bound : exactOf s x r q ≤ 200000000000000 * denominator r
-      unfolding exactOf
-      exact-bound = magnitude-bound s (denominator r) _ _ t low l (referred .1) (limit .1) (limit .2)
+-- the numerator that the code was told
+pub told-small : (reference : Reference) (points : List Point) (q : Quarter) {n : Numerator} {t : ℤ} → n ≡ over.Of t → ReferredTo (meaning reference points) q n
+    → Bounded reference → Small (denominator (meaning reference points)) t
+told-small reference points q j k h =
+    let r = subst (ReferredTo (meaning reference points) q) j k in
+    subst (Small (denominator (meaning reference points))) (sym (r .1)) (numerator-small reference points q h (r .0))
 
 -- ---- every readable quarter
-
-raise : (z : ℤ) → isPower z ≡ true → (n : ℕ) × RaisedFrom z (power.Of n)
-raise z e =
-    let w = within-signed 999999999 1000000000 z e in
-    let n : ℕ = orZero z + powerBias - under z in
-    (n, (e, biased-eq n powerBias z (omega arith), omega arith))
-
-limited-to : (s : Direction) (x : Execution) (q : Quarter) → limitReadable x q ≡ true → (l : ℕ) × LimitedTo s x q (power.Of l)
-limited-to s requested q e =
-    let b = both (isPower (q .measured)) (isPower (q .limit)) e in
-    let m = raise (q .measured) (b .0) in
-    let l = raise (q .limit) (b .1) in
-    (_, limited-requested s requested q (m .0) (m .1) refl (l .0) _ (l .1) refl)
-limited-to s tolerated q e = let m = raise (q .measured) e in (_, limited-tolerated s tolerated q (m .0) (m .1) refl)
-limited-to s fixed q e = let m = raise (q .measured) e in (_, limited-fixed s fixed q (m .0) (m .1) refl)
-
-referred-to : (reference : Reference) (points : List Point) (q : Quarter) → Bounded reference → referenceReadable (meaning reference points) q ≡ true
-    → (t : ℕ) × (low : ℕ) × ReferredTo (meaning reference points) q (over.Of t low)
-referred-to (OnCurve a b pn) points q h e = (_, _, curve-referred q a b pn points h _ _ e refl refl)
-referred-to (LastMeasured p0) points q h e = (_, _, last-referred q p0 h)
-referred-to (OnIrradiance a b) points q h e = (_, _, irradiance-referred q a b h _ e refl)
-referred-to (ByFactor pn) points q h e = (_, _, factor-referred q pn h _ e refl)
-referred-to AsPlanned points q h e = let n = raise (q .planned) e in (_, _, planned-referred q (n .0) (n .1))
 
 pub exact-small : (s : Direction) (x : Execution) (reference : Reference) (points : List Point) (q : Quarter) → Bounded reference
     → (limitReadable x q && referenceReadable (meaning reference points) q) ≡ true
     → exactOf s x (meaning reference points) q ≤ 200000000000000 * denominator (meaning reference points)
+unfolding exactOf
 exact-small s x reference points q h e =
     let b = both (limitReadable x q) (referenceReadable (meaning reference points) q) e in
-    let l = limited-to s x q (b .0) in
-    let t = referred-to reference points q h (b .1) in
-    exact-bound s x (meaning reference points) q refl (l .1) refl (t .2)
+    let d = divides {r = reference} {x = reference} refl h in
+    magnitude-bound s (denominator (meaning reference points)) _ _ (numerator-small reference points q h (b .1) .near) (limit-small s x q (b .0)) (omega (arith, d .some, d .is points))

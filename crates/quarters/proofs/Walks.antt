@@ -116,9 +116,9 @@ module _ (s : Direction) (x : Execution) (reference : book.Reference) (measure :
     are : o ≡ given entries
     count : g .count ≡ length entries
     fine : g .fine ≡ all isReadable (readFrom 0 entries)
-    sheet : g .fine ≡ true → length entries ≤ 2976 → take (length entries) (g .sheet) ≡ map (exactOf s x reference) (readFrom 0 entries)
+    sheet : g .fine ≡ true → length entries ≤ length (g .sheet) → take (length entries) (g .sheet) ≡ map (exactOf s x reference) (readFrom 0 entries)
 
-  ended : (o : Outcome (List Entry)) (sheet : List ℕ) (g : Gathered) → length sheet ≡ 2976 → gatheredFrom stepped (state 0 true sheet) o ≡ given g → Ended o g
+  ended : (o : Outcome (List Entry)) (sheet : List ℕ) (g : Gathered) → length (g .sheet) ≡ length sheet → gatheredFrom stepped (state 0 true sheet) o ≡ given g → Ended o g
   ended (refused n) sheet g h e = let z : _≡_ {A = ℕ} 0 1 = cc in absurd (omega arith)
   ended (given es) sheet g h e =
       let i : gathered stepped (state 0 true sheet) es ≡ g = cc in
@@ -170,7 +170,7 @@ module _ (archive : List ℕ) (place : settle.Place) (basis : Basis) where
   walked-refused : (sheet : List ℕ) (n : ℕ) → quartersOf archive place basis ≡ refused n → WalkedBy archive place basis sheet (walked.Refused n)
   walked-refused sheet n e = record {
     answers = rw e;
-    writes = λ quarters i. let z : _≡_ {A = ℕ} 0 1 = cc in absurd (omega arith);
+    writes = λ quarters i k. let z : _≡_ {A = ℕ} 0 1 = cc in absurd (omega arith);
     fits = λ quarters i. let z : _≡_ {A = ℕ} 0 1 = cc in absurd (omega arith);
   }
 
@@ -204,7 +204,8 @@ module _ (archive : List ℕ) (place : settle.Place) (basis : Basis) where
           let is = quarters-read f in
           record {
             answers = rw (is, size) (ap walked.Count (h .count));
-            writes = λ quarters i. rw (same-given i is, size) (h .sheet f few);
+            writes = λ quarters i k.
+                let e = same-given i is in rw (e, size) (h .sheet f (omega (arith, k, ap (λ (qs : List Quarter). length qs) e, size)));
             fits = λ quarters i. rw (same-given i is)
                 (total-fits _ (length (h .entries)) (denominator (basis .reference)) few
                 (rw (← size) (total-bound _ (readable place basis) _ small (quartersRead place (h .entries)) (sym (h .fine) ∙ f))));
@@ -221,12 +222,12 @@ pub record Going (archive : List ℕ) (used measure : ℕ) (s : Direction) (x : 
       ≡ gatheredFrom (stepped s x (meaning reference points) (recordAt archive measure)) g (chain archive used quarterKind last link)
   pub below : last < used
   pub counted : g .count ≤ last
-  pub size : length (g .sheet) ≡ 2976
+  pub size : length (g .sheet) ≡ length start
 
 module _ {archive : List ℕ} {used measure : ℕ} {s : Direction} {x : Execution} {reference : Reference} {curve : Curve} {table start : List ℕ} where
-  pub going-starts : {link : ℕ} → measure < used → length start ≡ 2976 → link ≡ firstQuarter (recordAt archive measure)
+  pub going-starts : {link : ℕ} → measure < used → link ≡ firstQuarter (recordAt archive measure)
       → Going archive used measure s x reference curve table start measure link (state 0 true start)
-  going-starts below size e = record { gathers = λ points c. rw e; below = below; counted = omega arith; size = size }
+  going-starts below e = record { gathers = λ points c. rw e; below = below; counted = omega arith; size = refl }
 
   pub going-on : {last link n next count : ℕ} {fine fine′ : Bool} {sheet sheet′ : List ℕ} (magnitude : Exact)
       → Going archive used measure s x reference curve table start last link (state count fine sheet)
@@ -252,11 +253,10 @@ module _ {archive : List ℕ} {s : Direction} {x : Execution} {reference : Refer
     by = λ points links c.
         let f = gathered-refused _ _ _ n (h .gathers points c ∙ gather-refused (stepped s x (meaning reference points) (recordAt archive (place .measure))) g _ n e) in
         rw i (walked-chain archive (meant archive place) _ (g .sheet) n f);
-    size = h .size;
   }
 
   -- direction and execution are read from the part `&archive[32 * m..32 * m + 32]` of the measure
-  module _ (end : link ≡ 0) (size : length start ≡ 2976) (b : Bounded reference)
+  module _ (end : link ≡ 0) (b : Bounded reference)
       (es : s ≡ directionOf (take (32 * place .measure + 32 - 32 * place .measure) (drop (32 * place .measure) archive)))
       (ex : x ≡ executionOf (take (32 * place .measure + 32 - 32 * place .measure) (drop (32 * place .measure) archive))) where
     abbrev basisWith : List Point → ℕ → Basis
@@ -268,17 +268,16 @@ module _ {archive : List ℕ} {s : Direction} {x : Execution} {reference : Refer
     ends points c =
         let p = record-part archive (place .measure) in
         rw (← es ∙ ap directionOf p, ← ex ∙ ap executionOf p)
-        (ended s x (meaning reference points) (recordAt archive (place .measure)) _ start g size
+        (ended s x (meaning reference points) (recordAt archive (place .measure)) _ start g (h .size)
         (h .gathers points c ∙ gather-done _ g _ (chain-ends archive (place .used) quarterKind last link end)))
 
     pub walks-uncounted : (leb 1 (g .count) && leb (g .count) 2976) ≡ false → Walks archive place reference curve table (g .sheet) (walked.Refused badCount)
-    walks-uncounted k = record { by = λ points links c. walked-uncounted archive (meant archive place) (basisWith points links) g (ends points c) k; size = h .size }
+    walks-uncounted k = record { by = λ points links c. walked-uncounted archive (meant archive place) (basisWith points links) g (ends points c) k }
 
     module _ (counted : (leb 1 (g .count) && leb (g .count) 2976) ≡ true) where
       pub walks-unreadable : g .fine ≡ false → Walks archive place reference curve table (g .sheet) (walked.Refused outOfRange)
       walks-unreadable f = record {
         by = λ points links c. walked-unreadable archive (meant archive place) (basisWith points links) g (ends points c) counted f;
-        size = h .size;
       }
 
       pub walks-given : g .fine ≡ true → Walks archive place reference curve table (g .sheet) (walked.Count (g .count))
@@ -286,7 +285,6 @@ module _ {archive : List ℕ} {s : Direction} {x : Execution} {reference : Refer
         by = λ points links c.
             walked-given archive (meant archive place) (basisWith points links) g (ends points c) counted f
             (λ q r. exact-small (directionOf (recordAt archive (place .measure))) (executionOf (recordAt archive (place .measure))) reference points q b r);
-        size = h .size;
       }
 
 -- ---- a place of the sheet

@@ -1,9 +1,9 @@
--- What the code says of a quarter: its limitation value, its reference power and its exact magnitude, held without a sign.
+-- What the code says of a quarter: its limitation value, its reference power and its exact magnitude.
 use mathlib.Core.Path.{_≡_}
 use mathlib.Core.Bool.{Bool, true, false, _&&_}
 use mathlib.Core.List.{List}
-use Prim.Native.Nat.{ℕ, _+_, _*_, _≤_}
-use lib.IntN.{ℤ, subℕ}
+use Prim.Native.Nat.{ℕ}
+use lib.IntN.{ℤ}
 use Rattle.rules.specs.declared.Direction.{Direction}
 use Rattle.rules.specs.declared.Execution.{Execution}
 use Rattle.rules.specs.Terms.{isPower, Point, Quarter}
@@ -11,7 +11,6 @@ use Rattle.rules.specs.Reference as book
 use Rattle.rules.specs.Settle.{limitReadable, referenceReadable}
 use Rattle.energy.specs.declared.reference.Reference.{Reference}
 use Rattle.energy.specs.declared.reference.Reference.the-variants.{OnCurve, LastMeasured, OnIrradiance, ByFactor, AsPlanned}
-use Rattle.energy.specs.References.{powerBias}
 use Rattle.curve.specs.declared.Curve.{Curve}
 use Rattle.curve.specs.Tables.{Tabulates}
 use Rattle.quarters.specs.declared.exact.Power.{Power}
@@ -35,33 +34,22 @@ Tabled reference curve table = (points : List Point) × Curved reference curve t
 
 -- ---- powers and the limitation value
 
--- a measured power, limit or plan raised by 1,000,000,000; or it is out of range
-abbrev pub RaisedFrom : ℤ → Power → Type 0
-RaisedFrom z (power.Of n) = (isPower z ≡ true) × (z ≡ subℕ n powerBias) × (n ≤ 2000000000)
-RaisedFrom z power.OutOfRange = isPower z ≡ false
+-- a measured power, limit or plan; or it is out of range
+abbrev pub PowerOf : ℤ → Power → Type 0
+PowerOf z (power.Of p) = (isPower z ≡ true) × (p .0 ≡ z)
+PowerOf z power.OutOfRange = isPower z ≡ false
 
--- L, raised likewise; or a field that it needs is out of range
+-- L; or a field that it needs is out of range
 abbrev pub LimitedTo : Direction → Execution → Quarter → Power → Type 0
 LimitedTo direction execution q (power.Of l) =
-    (limitReadable execution q ≡ true)
-    × (book.limitation direction execution (q .measured) (q .limit) ≡ subℕ l powerBias)
-    × (l ≤ 2000000000)
+    (limitReadable execution q ≡ true) × (l .0 ≡ book.limitation direction execution (q .measured) (q .limit))
 LimitedTo direction execution q power.OutOfRange = limitReadable execution q ≡ false
 
 -- ---- reference power
 
--- a numerator over d, held as t with `low` too much: T is at most 199,999,000,000,000 W away from 0, and all fits 64 bits
-pub record HeldAs (d : ℕ) (z : ℤ) (t low : ℕ) : Type 0 where
-  pub is : z ≡ subℕ t low
-  pub above : t ≤ low + 199999000000000 * d
-  pub below : low ≤ t + 199999000000000 * d
-  pub fits : t ≤ 4000000000000000000
-  pub small : low ≤ 192000000000000
-
 -- the numerator of the quarter's T; or a field that it needs is out of range
 abbrev pub ReferredTo : book.Reference → Quarter → Numerator → Type 0
-ReferredTo reference q (numerator.Of t low) =
-    (referenceReadable reference q ≡ true) × HeldAs (book.denominator reference) (book.numerator reference q) t low
+ReferredTo reference q (numerator.Of t) = (referenceReadable reference q ≡ true) × (t ≡ book.numerator reference q)
 ReferredTo reference q numerator.OutOfRange = referenceReadable reference q ≡ false
 
 -- ---- exact magnitude

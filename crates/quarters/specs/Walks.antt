@@ -2,7 +2,7 @@
 use mathlib.Core.Path.{_≡_}
 use mathlib.Core.Bool.{Bool, true, false}
 use mathlib.Core.List.{List}
-use Prim.Native.Nat.{ℕ, _/_, _^_, _<_}
+use Prim.Native.Nat.{ℕ, _/_, _^_, _≤_, _<_}
 use lib.ListN.{length, take, set}
 use Rattle.rules.specs.Outcome.{Outcome, refused, given}
 use Rattle.rules.specs.Numbers.{sum}
@@ -40,8 +40,8 @@ walkedAnswer (given quarters) = walked.Count (length quarters)
 
 pub record WalkedBy (archive : List ℕ) (place : settle.Place) (basis : Basis) (sheet : List ℕ) (answer : Walked) : Type 0 where
   pub answers : answer ≡ walkedAnswer (quartersOf archive place basis)
-  -- the sheet's first places hold the numerators of the exact magnitudes
-  pub writes : (quarters : List Quarter) → quartersOf archive place basis ≡ given quarters
+  -- the sheet's first places hold the numerators of the exact magnitudes, if it has a place for each
+  pub writes : (quarters : List Quarter) → quartersOf archive place basis ≡ given quarters → length quarters ≤ length sheet
       → take (length quarters) sheet ≡ exactsOf place basis quarters
   -- their sum, rounded down to whole Wh, fits a signed number of 64 bits
   pub fits : (quarters : List Quarter) → quartersOf archive place basis ≡ given quarters
@@ -51,4 +51,3 @@ pub record WalkedBy (archive : List ℕ) (place : settle.Place) (basis : Basis) 
 pub record Walks (archive : List ℕ) (place : Place) (reference : Reference) (curve : Curve) (table sheet : List ℕ) (answer : Walked) : Type 0 where
   pub by : (points : List Point) (links : ℕ) → Curved reference curve table points
       → WalkedBy archive (meant archive place) (record { reference = meaning reference points; links = links }) sheet answer
-  pub size : length sheet ≡ 2976

@@ -1,24 +1,21 @@
 // The exact magnitude of a quarter, from its own 32 bytes (document 01, 'From readings to exact fractions').
 ghost use mathlib.Core.Path.{_≡_};
 ghost use mathlib.Core.List.{List};
-ghost use Prim.Native.Nat.{ℕ, _+_, _*_, _≤_, _<_, min};
-ghost use lib.IntN.{pos, subℕ};
+ghost use Prim.Native.Nat.{ℕ, _+_, _*_, _≤_, _<_};
 ghost use lib.ListN.{length};
+ghost use Rattle.rules.specs.Numbers.{orZero, smaller};
 ghost use Rattle.rules.specs.Archive.{byteAt, fieldAt, recordAt};
 ghost use Rattle.rules.specs.Terms.{Point, quarterOf};
 ghost use Rattle.rules.specs.Reference.{onCurve, onIrradiance, byFactor, asPlanned};
-ghost use Rattle.energy.specs.References.{sumBias, meaning, Bounded};
+ghost use Rattle.energy.specs.References.{meaning, Bounded};
 ghost use Rattle.curve.specs.Tables.{Tabulates};
-ghost use Rattle.quarters.specs.Exacts.{Curved, Tabled, RaisedFrom, LimitedTo, ReferredTo, quarterAnswer};
+ghost use Rattle.quarters.specs.Exacts.{Curved, Tabled, PowerOf, LimitedTo, ReferredTo, quarterAnswer};
 use curve::Curve;
 use energy::reference::Reference;
 use rules::Direction;
 use rules::Execution;
-
-// What is added to a power, and to the sum of 96.
-const POWER_BIAS: u64 = 1000000000;
-
-const SUM_BIAS: u64 = 96000000000;
+use units::Irradiance;
+use units::Watt;
 
 // ---- fields
 
@@ -29,22 +26,21 @@ fn byte_at(r: &[u8], at: usize) -> u64
     r[at] as u64
 }
 
-// A power raised by 1,000,000,000, so that it isn't below zero.
 pub enum Power {
-    Of(u64),
+    Of(Watt),
     OutOfRange,
 }
 
 // Measured power, limit or plan.
 fn power_of(r: &[u8], at: usize) -> Power
     requires { ⌜ at + 4 ≤ length (now r) ⌝ }
-    ensures { λ p. ⌜ RaisedFrom (fieldAt (now (r .entry)) at) p ⌝ }
+    ensures { λ p. ⌜ PowerOf (fieldAt (now (r .entry)) at) p ⌝ }
 {
     let power = archive::watt_at(r, at);
     if !units::in_power_range(power) {
         return Power::OutOfRange;
     }
-    Power::Of(units::raised(power))
+    Power::Of(power)
 }
 
 // ---- limitation value
@@ -62,7 +58,7 @@ fn limitation_of(direction: Direction, execution: Execution, r: &[u8]) -> Power
             let Power::Of(l) = power_of(r, 12) else {
                 return Power::OutOfRange;
             };
-            Power::Of(energy::held::limitation(direction, execution, m, l))
+            Power::Of(energy::exact::limitation(direction, execution, m, l))
         }
         Execution::Tolerated => Power::Of(m),
         Execution::Fixed => Power::Of(m),
@@ -71,52 +67,52 @@ fn limitation_of(direction: Direction, execution: Execution, r: &[u8]) -> Power
 
 // ---- reference power
 
-// The numerator of T over D, as `t` less `low`.
+// The numerator of T over D.
 pub enum Numerator {
-    Of(u64, u64),
+    Of(i64),
     OutOfRange,
 }
 
-fn capped(t: u64, cap: u64) -> u64
-    ensures { λ r. ⌜ r ≡ min t cap ⌝ }
+fn capped(t: i64, cap: i64) -> i64
+    ensures { λ r. ⌜ r ≡ smaller t cap ⌝ }
 {
-    if t < cap { t } else { cap }
+    if t <= cap { t } else { cap }
 }
 
 // Wind Spitz: A × curve power, capped at Pn × B.
-fn on_curve(a: u64, b: u64, pn: u64, curve: Curve, table: &[u64], r: &[u8]) -> Numerator
+fn on_curve(a: Watt, b: Watt, pn: Watt, curve: Curve, table: &[u64], r: &[u8]) -> Numerator
     requires { ⌜ Bounded (Reference.OnCurve a b pn) ⌝ }
     requires { ⌜ Tabled (Reference.OnCurve a b pn) curve (now table) ⌝ }
     requires { ⌜ length (now r) ≡ 32 ⌝ }
-    ensures { λ n. ⌜ ((points : List Point) (measure : List ℕ) (index : ℕ) → Tabulates curve (now (table .entry)) points → ReferredTo (onCurve (pos a) b pn points) (quarterOf measure index (now (r .entry))) n) ⌝ }
+    ensures { λ n. ⌜ ((points : List Point) (measure : List ℕ) (index : ℕ) → Tabulates curve (now (table .entry)) points → ReferredTo (onCurve (a .0) (orZero (b .0)) (orZero (pn .0)) points) (quarterOf measure index (now (r .entry))) n) ⌝ }
 {
     let word = archive::link_at(r, 16);
     if !units::is_speed(word) {
         return Numerator::OutOfRange;
     }
     let power = curve::power_at(curve, table, units::speed_of(word));
-    Numerator::Of(capped(a * power, pn * b), 0)
+    Numerator::Of(capped(a.0 * power.0, pn.0 * b.0))
 }
 
 // Solar Spitz: A × irradiance.
-fn on_irradiance(a: u64, b: u64, r: &[u8]) -> Numerator
+fn on_irradiance(a: Watt, b: Irradiance, r: &[u8]) -> Numerator
     requires { ⌜ Bounded (Reference.OnIrradiance a b) ⌝ }
     requires { ⌜ length (now r) ≡ 32 ⌝ }
-    ensures { λ n. ⌜ ((measure : List ℕ) (index : ℕ) → ReferredTo (onIrradiance (subℕ a sumBias) b) (quarterOf measure index (now (r .entry))) n) ⌝ }
+    ensures { λ n. ⌜ ((measure : List ℕ) (index : ℕ) → ReferredTo (onIrradiance (a .0) (b .0)) (quarterOf measure index (now (r .entry))) n) ⌝ }
 {
     let word = archive::link_at(r, 16);
     if !units::is_irradiance(word) {
         return Numerator::OutOfRange;
     }
     let g = units::irradiance_of(word).0;
-    Numerator::Of(a * g, SUM_BIAS * g)
+    Numerator::Of(a.0 * g as i64)
 }
 
 // Solar Pauschal: Pn × factor.
-fn by_factor(pn: u64, r: &[u8]) -> Numerator
+fn by_factor(pn: Watt, r: &[u8]) -> Numerator
     requires { ⌜ Bounded (Reference.ByFactor pn) ⌝ }
     requires { ⌜ length (now r) ≡ 32 ⌝ }
-    ensures { λ n. ⌜ ((measure : List ℕ) (index : ℕ) → ReferredTo (byFactor pn) (quarterOf measure index (now (r .entry))) n) ⌝ }
+    ensures { λ n. ⌜ ((measure : List ℕ) (index : ℕ) → ReferredTo (byFactor (orZero (pn .0))) (quarterOf measure index (now (r .entry))) n) ⌝ }
 {
     let month = byte_at(r, 1);
     let quarter = byte_at(r, 2);
@@ -129,7 +125,7 @@ fn by_factor(pn: u64, r: &[u8]) -> Numerator
     if 95 < quarter {
         return Numerator::OutOfRange;
     }
-    Numerator::Of(pn * energy::factor::plant_factor(month, quarter), 0)
+    Numerator::Of(pn.0 * energy::factor::plant_factor(month, quarter) as i64)
 }
 
 // Other Spitz: the planned power.
@@ -140,7 +136,7 @@ fn as_planned(r: &[u8]) -> Numerator
     let Power::Of(planned) = power_of(r, 20) else {
         return Numerator::OutOfRange;
     };
-    Numerator::Of(planned, POWER_BIAS)
+    Numerator::Of(planned.0)
 }
 
 fn numerator_of(reference: Reference, curve: Curve, table: &[u64], r: &[u8]) -> Numerator
@@ -151,7 +147,7 @@ fn numerator_of(reference: Reference, curve: Curve, table: &[u64], r: &[u8]) -> 
 {
     match reference {
         Reference::OnCurve(a, b, pn) => on_curve(a, b, pn, curve, table, r),
-        Reference::LastMeasured(p0) => Numerator::Of(p0, POWER_BIAS),
+        Reference::LastMeasured(p0) => Numerator::Of(p0.0),
         Reference::OnIrradiance(a, b) => on_irradiance(a, b, r),
         Reference::ByFactor(pn) => by_factor(pn, r),
         Reference::AsPlanned => as_planned(r),
@@ -182,11 +178,11 @@ fn exact_of(
     let Power::Of(l) = limitation_of(direction, execution, r) else {
         return Exact::OutOfRange;
     };
-    let Numerator::Of(t, low) = numerator_of(reference, curve, table, r) else {
+    let Numerator::Of(t) = numerator_of(reference, curve, table, r) else {
         return Exact::OutOfRange;
     };
     let d = energy::reference::denominator(reference);
-    Exact::Of(energy::held::magnitude(direction, d, t + POWER_BIAS * d, low, l))
+    Exact::Of(energy::exact::magnitude(direction, d, t, l))
 }
 
 // Of record n, from its own 32 bytes.

@@ -3,7 +3,6 @@
 ghost use mathlib.Core.Path.{_≡_};
 ghost use mathlib.Core.Bool.{_&&_};
 ghost use lib.Dec.{leb};
-ghost use lib.ListN.{length};
 ghost use Rattle.place.specs.Places.{Lies};
 ghost use Rattle.energy.specs.References.{Bounded};
 ghost use Rattle.quarters.specs.Exacts.{Tabled};
@@ -45,7 +44,8 @@ pub enum Walked {
     Refused(u64),
 }
 
-// The chain is walked to its end, however long, before 8 and then 9 are tested.
+// The chain is walked to its end, however long, before 8 and then 9 are tested. A sheet of any length will do: a magnitude that has no
+// place there is tested and counted only.
 pub fn walk(
     archive: &[u8],
     place: Place,
@@ -57,7 +57,6 @@ pub fn walk(
     requires { ⌜ Lies (now archive) place ⌝ }
     requires { ⌜ Bounded reference ⌝ }
     requires { ⌜ Tabled reference curve (now table) ⌝ }
-    requires { ⌜ length (now sheet) ≡ 2976 ⌝ }
     ensures { λ r. ⌜ Walks (now (archive .entry)) place reference curve (now (table .entry)) (now (sheet .exit)) r ⌝ }
 {
     let used = place.used;

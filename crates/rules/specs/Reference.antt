@@ -8,7 +8,7 @@ use Rattle.rules.specs.Numbers.{smaller, larger, orZero}
 use Rattle.rules.specs.Terms.{Direction, positive, negative, Execution, requested, tolerated, fixed, Point, Quarter}
 pub use Rattle.rules.specs.declared.FactorRow.{FactorRow}
 
--- ---- limitation value L (Begrenzungswert, 001, 3.1)
+-- ---- limitation value L (Wert der Leistungslimitierung, 001, 3.1)
 
 -- from measured power and sent limit; it may be negative and isn't raised to zero
 unfoldable pub limitation : Direction → Execution → ℤ → ℤ → ℤ

@@ -5,8 +5,10 @@ use mathlib.Core.List.{List, [], _∷_}
 use Prim.Native.Nat.{ℕ, zero, suc, _+_, _≤_}
 use native.Mathlib.Omega.{arith}
 use lib.Dec.{leb→le}
+use lib.IntN.{ℤ, pos}
 use lib.ListN.{length, length-map, getD, replicate}
 use Rattle.rules.specs.Outcome.{Outcome, refused, given, _>>=_}
+use Rattle.rules.specs.Numbers.{orZero}
 use Rattle.rules.specs.Archive.{Entry}
 use Rattle.rules.specs.declared.Technology.{Technology}
 use Rattle.rules.specs.declared.Technology.the-variants.{Wind as wind, Solar as solar, Other as other}
@@ -17,11 +19,12 @@ use Rattle.rules.specs.Reference as book
 use Rattle.rules.specs.Settle.{Place, Basis, placeOf, pointsOf, beforesOf, marked, windBasis, firstMarked, pauschalBasis, solarBasis, basisBy, basisOf, Settlement, settled}
 use Rattle.rules.proofs.Inversion.{Holds, holds-bind, holds-refused, holds-require, holds-given}
 use Rattle.rules.proofs.Chains.{chain-few}
+use Rattle.units.specs.declared.Watt.{Watt}
 use Rattle.curve.specs.declared.Curve.{Curve}
 use Rattle.curve.specs.Tables.{Tabulates}
 use Rattle.energy.specs.declared.reference.Reference.{Reference}
 use Rattle.energy.specs.declared.reference.Reference.the-variants.{OnCurve, LastMeasured, OnIrradiance, ByFactor, AsPlanned}
-use Rattle.energy.specs.References.{meaning, Bounded}
+use Rattle.energy.specs.References.{meaning, UpTo, Bounded}
 use Rattle.basis.specs.declared.Based.{Based}
 use Rattle.basis.specs.declared.Based.the-variants as based
 use Rattle.basis.specs.Based.{held, basedAnswer, windOf, solarOf}
@@ -175,6 +178,9 @@ module _ (archive : List ℕ) (place : Place) (allowed : plantAllowed (place .pl
       off-curve (solarOf archive place) (basis-held archive place allowed [] solar spitz tt)
       (holds-bind _ _ (λ entries e. solar-free _ _ (omega (arith, befores-few archive place .of entries e))))
 
+pub up-to-natural : {top n : ℕ} {z : ℤ} → z ≡ pos n → n ≤ top → UpTo top z
+up-to-natural {top} e h = subst (UpTo top) (sym e) (record { is = refl; low = h })
+
 -- ---- the pairings
 
 module _ (archive : List ℕ) (place : Place) (sheet : List ℕ) (r : Prepared) where
@@ -191,11 +197,13 @@ module _ (archive : List ℕ) (place : Place) (sheet : List ℕ) (r : Prepared) 
   unfolding basisBy
   by-solar e f h = by-pairing solar spitz e f h
 
-  pub by-plant-factor : technologyOf (place .plant .bytes) ≡ solar → variantOf (place .plant .bytes) ≡ pauschal → (pn : ℕ) → pn ≡ nominalPower (place .plant .bytes)
+  pub by-plant-factor : technologyOf (place .plant .bytes) ≡ solar → variantOf (place .plant .bytes) ≡ pauschal → (pn : Watt) → pn .0 ≡ pos (nominalPower (place .plant .bytes))
       → ((points : List Point) → Prepares (settledOn archive place (given (record { reference = meaning (ByFactor pn) points; links = 0 }))) sheet r)
       → Prepares (settledOn archive place (basisOf archive place)) sheet r
   unfolding basisBy
-  by-plant-factor e f pn n h = by-pairing solar pauschal e f (rw (← n) (h []))
+  by-plant-factor e f pn n h =
+      by-pairing solar pauschal e f
+      (told archive place _ _ sheet r (ap (λ (z : ℤ). given (record { reference = book.byFactor (orZero z); links = 0 })) (sym n)) (h []))
 
   pub by-plan : technologyOf (place .plant .bytes) ≡ other → variantOf (place .plant .bytes) ≡ spitz
       → ((points : List Point) → Prepares (settledOn archive place (given (record { reference = meaning AsPlanned points; links = 0 }))) sheet r)

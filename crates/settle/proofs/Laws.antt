@@ -1,7 +1,7 @@
 -- Settle's promise, by what the tests before the list found.
 use mathlib.Core.Path.{_≡_, refl, sym, _∙_, ap, subst}
 use mathlib.Core.List.{List, _++_}
-use Prim.Native.Nat.{ℕ, _≤_, _<_}
+use Prim.Native.Nat.{ℕ, _≤_, _<_, min}
 use native.Mathlib.Omega.{arith}
 use borrow.Author.Tests.{le-leb, lt-leb}
 use lib.IntN.{ℤ}
@@ -13,7 +13,6 @@ use Rattle.rules.specs.Numbers.{sumℤ}
 use Rattle.rules.specs.Booking.{amountsOf}
 use Rattle.rules.specs.Settle.{Answer, answerOf, Settlement, countOf, settled, settle, listAfter}
 use Rattle.rules.specs.Promises.{Settles}
-use Rattle.rules.proofs.Settled.{amounts-length}
 use Rattle.rules.proofs.Demand.{settle-keeps}
 use Rattle.units.specs.declared.WattHour.{WattHour}
 use Rattle.settle.specs.declared.Settled.the-variants as answer
@@ -41,47 +40,46 @@ module _ (archive : List ℕ) (p k : ℕ) (list : List ℤ) where
   settles-refused n e = by-outcome (refused n) list _ (not-settled n e) refl refl
 
   module _ (sheet : List ℕ) (m : Measure) (s : Stands (settled archive p k) sheet m) where
-    pub sheet-length : length (take (m .count) sheet) ≡ m .count
-    sheet-length = length-take-le (m .count) sheet (omega (arith, s .few, s .size))
-
-    pub list-long : m .count ≤ length list → length (take (m .count) sheet) ≤ length list
-    list-long h = omega (arith, sheet-length)
-
-    pub count-is : countOf (s .settlement) ≡ m .count
-    count-is =
-        ap (λ (l : List ℤ). length l) (s .amounts-are)
-        ∙ amounts-length (m .direction) (m .denominator) (take (m .count) sheet)
-        ∙ sheet-length
-
     no-place : length list < m .count → settle archive p k (length list) ≡ refused noRoom
     unfolding settle _>>=_ _>>_ require
-    no-place h = rw (s .is, lt-leb (countOf (s .settlement)) (length list) (omega (arith, count-is)))
+    no-place h = rw (s .is, lt-leb (countOf (s .settlement)) (length list) (omega (arith, s .counted)))
 
     pub settles-short : length list < m .count → Settles archive p k list list (answered (answer.Refused noRoom))
     settles-short h = by-outcome (refused noRoom) list _ (no-place h) refl refl
 
     placed : m .count ≤ length list → settle archive p k (length list) ≡ given (s .settlement)
     unfolding settle _>>=_ _>>_ require
-    placed h = rw (s .is, le-leb (countOf (s .settlement)) (length list) (omega (arith, count-is)))
+    placed h = rw (s .is, le-leb (countOf (s .settlement)) (length list) (omega (arith, s .counted)))
 
-    -- the amounts booked into the list's first places, and their sum
-    pub settles-given : (later : List ℤ) (count : ℕ) (total : WattHour) (links : ℕ) → m .count ≤ length list
-        → later ≡ amountsOf (m .direction) (m .denominator) (take (m .count) sheet) ++ drop (length (take (m .count) sheet)) list
-        → count ≡ m .count → total .0 ≡ sumℤ (amountsOf (m .direction) (m .denominator) (take (m .count) sheet)) → links ≡ m .links
-        → Settles archive p k list later (answered (answer.Given count total links))
-    settles-given later count total links h l c t k′ =
-        by-outcome (given (s .settlement)) later _ (placed h)
-        (same-answer _ _ _ _ _ _ (c ∙ sym count-is) (t ∙ ap sumℤ (sym (s .amounts-are))) (k′ ∙ sym (s .links-are)))
-        (l ∙ same-list)
-      where
-        taken : length (take (m .count) sheet) ≡ countOf (s .settlement)
-        taken = sheet-length ∙ sym count-is
+    -- a sheet that has a place for each quarter that the list can take
+    module _ (room : min (length list) 2976 ≤ length sheet) (h : m .count ≤ length list) where
+      pub in-sheet : m .count ≤ length sheet
+      in-sheet = omega (arith, s .few)
 
-        same-list : (amountsOf (m .direction) (m .denominator) (take (m .count) sheet) ++ drop (length (take (m .count) sheet)) list)
-            ≡ s .settlement .amounts ++ drop (countOf (s .settlement)) list
-        same-list =
-            ap (λ (n : ℕ). amountsOf (m .direction) (m .denominator) (take (m .count) sheet) ++ drop n list) taken
-            ∙ ap (λ (x : List ℤ). x ++ drop (countOf (s .settlement)) list) (sym (s .amounts-are))
+      pub sheet-length : length (take (m .count) sheet) ≡ m .count
+      sheet-length = length-take-le (m .count) sheet in-sheet
+
+      pub list-long : length (take (m .count) sheet) ≤ length list
+      list-long = omega (arith, sheet-length)
+
+      -- the amounts booked into the list's first places, and their sum
+      pub settles-given : (later : List ℤ) (count : ℕ) (total : WattHour) (links : ℕ)
+          → later ≡ amountsOf (m .direction) (m .denominator) (take (m .count) sheet) ++ drop (length (take (m .count) sheet)) list
+          → count ≡ m .count → total .0 ≡ sumℤ (amountsOf (m .direction) (m .denominator) (take (m .count) sheet)) → links ≡ m .links
+          → Settles archive p k list later (answered (answer.Given count total links))
+      settles-given later count total links l c t k′ =
+          by-outcome (given (s .settlement)) later _ (placed h)
+          (same-answer _ _ _ _ _ _ (c ∙ sym (s .counted)) (t ∙ ap sumℤ (sym amounts)) (k′ ∙ sym (s .links-are)))
+          (l ∙ same-list)
+        where
+          amounts : s .settlement .amounts ≡ amountsOf (m .direction) (m .denominator) (take (m .count) sheet)
+          amounts = s .amounts-are in-sheet
+
+          same-list : (amountsOf (m .direction) (m .denominator) (take (m .count) sheet) ++ drop (length (take (m .count) sheet)) list)
+              ≡ s .settlement .amounts ++ drop (countOf (s .settlement)) list
+          same-list =
+              ap (λ (n : ℕ). amountsOf (m .direction) (m .denominator) (take (m .count) sheet) ++ drop n list) (sheet-length ∙ sym (s .counted))
+              ∙ ap (λ (x : List ℤ). x ++ drop (countOf (s .settlement)) list) (sym amounts)
 
 -- ---- by the answer of the tests
 

@@ -5,13 +5,14 @@ use mathlib.Core.List.{List, [], _∷_}
 use Prim.Native.Nat.{ℕ, suc, _+_, _*_, _/_, _^_, _≤_, _<_}
 use native.Mathlib.Omega.{arith}
 use lib.Dec.{leb, leb→le}
-use lib.ListN.{length, take}
+use lib.ListN.{length, take, length-map}
 use Rattle.rules.specs.Outcome.{Outcome, refused, given, _>>=_}
 use Rattle.rules.specs.declared.Direction.{Direction}
 use Rattle.rules.specs.Numbers.{sum, mapFrom}
 use Rattle.rules.specs.Terms.{Quarter, quarterOf, directionOf}
 use Rattle.rules.specs.Booking.{amountsOf}
 use Rattle.rules.specs.Settle.{Place, Basis, quartersOf, measureDenominator, exactsOf, settlementOf}
+use Rattle.rules.proofs.Settled.{amounts-length}
 use Rattle.rules.proofs.Inversion.{Holds, holds-bind, holds-require, holds-given, both-right}
 use Rattle.quarters.specs.declared.Walked.{Walked}
 use Rattle.quarters.specs.declared.Walked.the-variants as walked
@@ -56,20 +57,20 @@ module _ (archive : List ℕ) (place : Place) (basis : Basis) (sheet : List ℕ)
           record { quarters = quarters; are = q; is = i; few = omega (arith, quarters-few archive place basis .of quarters q) }
 
   pub stands : (m : Measure) → Counted (m .count) → m .direction ≡ directionOf (place .measure .bytes) → m .denominator ≡ measureDenominator basis
-      → m .links ≡ place .links + basis .links + m .count → 0 < m .denominator → m .denominator ≤ 2 ^ 63 → length sheet ≡ 2976
+      → m .links ≡ place .links + basis .links + m .count → 0 < m .denominator → m .denominator ≤ 2 ^ 63
       → Prepares (settledOn archive place (given basis)) sheet (prepared.Ready m)
   unfolding Prepares _>>=_
-  stands m c d n l positive low size = record {
+  stands m c d n l positive low = record {
     settlement = settlementOf place basis (c .quarters);
     is = rw (c .are);
-    amounts-are = rw (d, n, taken);
+    counted = amounts-length _ _ (exactsOf place basis (c .quarters)) ∙ length-map (c .quarters) _ ∙ sym (c .is);
     links-are = rw (l, c .is);
-    size = size;
     few = c .few;
     positive = positive;
     low = low;
-    fits = rw (n, taken) (w .fits (c .quarters) (c .are));
+    amounts-are = λ h. rw (d, n, taken h);
+    fits = λ h. rw (n, taken h) (w .fits (c .quarters) (c .are));
   }
     where
-      taken : take (m .count) sheet ≡ exactsOf place basis (c .quarters)
-      taken = ap (λ (k : ℕ). take k sheet) (c .is) ∙ w .writes (c .quarters) (c .are)
+      taken : m .count ≤ length sheet → take (m .count) sheet ≡ exactsOf place basis (c .quarters)
+      taken h = ap (λ (k : ℕ). take k sheet) (c .is) ∙ w .writes (c .quarters) (c .are) (omega (arith, h, c .is))

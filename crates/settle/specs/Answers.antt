@@ -7,7 +7,7 @@ use lib.ListN.{length, take}
 use Rattle.rules.specs.Outcome.{Outcome, refused, given, _>>=_}
 use Rattle.rules.specs.Numbers.{sum}
 use Rattle.rules.specs.Booking.{amountsOf}
-use Rattle.rules.specs.Settle.{Answer, Place, Basis, quartersOf, settlementOf, Settlement}
+use Rattle.rules.specs.Settle.{Answer, Place, Basis, quartersOf, settlementOf, Settlement, countOf}
 use Rattle.rules.specs.Terms.{Point}
 use Rattle.curve.specs.declared.Curve.{Curve}
 use Rattle.energy.specs.declared.reference.Reference.{Reference}
@@ -31,13 +31,14 @@ answered (answer.Refused n) = record { number = n; count = 0; total = pos 0; lin
 pub record Stands (o : Outcome Settlement) (sheet : List ℕ) (m : Measure) : Type 0 where
   pub settlement : Settlement
   pub is : o ≡ given settlement
-  pub amounts-are : settlement .amounts ≡ amountsOf (m .direction) (m .denominator) (take (m .count) sheet)
+  pub counted : countOf settlement ≡ m .count
   pub links-are : settlement .links ≡ m .links
-  pub size : length sheet ≡ 2976
   pub few : m .count ≤ 2976
   pub positive : 0 < m .denominator
   pub low : m .denominator ≤ 2 ^ 63
-  pub fits : sum (take (m .count) sheet) / m .denominator < 2 ^ 63
+  -- if the sheet has a place for each quarter
+  pub amounts-are : m .count ≤ length sheet → settlement .amounts ≡ amountsOf (m .direction) (m .denominator) (take (m .count) sheet)
+  pub fits : m .count ≤ length sheet → sum (take (m .count) sheet) / m .denominator < 2 ^ 63
 
 -- the answer for a settlement that is given or refused
 unfoldable pub Prepares : Outcome Settlement → List ℕ → Prepared → Type 0

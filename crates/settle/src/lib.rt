@@ -2,7 +2,7 @@
 ghost use mathlib.Core.Path.{_≡_};
 ghost use mathlib.Core.Bool.{true};
 ghost use mathlib.Core.List.{List};
-ghost use Prim.Native.Nat.{ℕ, _≤_};
+ghost use Prim.Native.Nat.{ℕ, _≤_, min};
 ghost use lib.ListN.{length};
 ghost use Rattle.rules.specs.Outcome.{Outcome, given};
 ghost use Rattle.rules.specs.Archive.{recordAt};
@@ -64,7 +64,7 @@ fn measured(
     requires { ⌜ Lies (now archive) place ⌝ }
     requires { ⌜ Bounded reference ⌝ }
     requires { ⌜ Tabled reference curve (now table) ⌝ }
-    requires { ⌜ (length (now sheet) ≡ 2976) × (place .links ≤ 65535) × (links ≤ 131072) ⌝ }
+    requires { ⌜ (place .links ≤ 65535) × (links ≤ 131072) ⌝ }
     ensures { λ r. ⌜ ((points : List Point) → Curved reference curve (now (table .entry)) points
         → Prepares (settledOn (now (archive .entry)) (meant (now (archive .entry)) place) (given (record { reference = meaning reference points; links = links }))) (now (sheet .exit)) r) ⌝ }
 {
@@ -89,7 +89,7 @@ fn on_curve(archive: &[u8], place: Place, table: &mut [u64], sheet: &mut [u64]) 
     requires { ⌜ Lies (now archive) place ⌝ }
     requires { ⌜ plantAllowed (recordAt (now archive) (place .plant)) ≡ true ⌝ }
     requires { ⌜ (length (now table) ≡ 1001) × Low (now table) ⌝ }
-    requires { ⌜ (length (now sheet) ≡ 2976) × (place .links ≤ 65535) ⌝ }
+    requires { ⌜ place .links ≤ 65535 ⌝ }
     ensures { λ r. ⌜ Prepares (settledOn (now (archive .entry)) (meant (now (archive .entry)) place) (basisBy wind spitz (now (archive .entry)) (meant (now (archive .entry)) place))) (now (sheet .exit)) r ⌝ }
 {
     match curve::read_points(archive, place, table) {
@@ -108,7 +108,7 @@ fn on_curve(archive: &[u8], place: Place, table: &mut [u64], sheet: &mut [u64]) 
 fn wind_spitz(archive: &[u8], place: Place, sheet: &mut [u64]) -> Prepared
     requires { ⌜ Lies (now archive) place ⌝ }
     requires { ⌜ plantAllowed (recordAt (now archive) (place .plant)) ≡ true ⌝ }
-    requires { ⌜ (length (now sheet) ≡ 2976) × (place .links ≤ 65535) ⌝ }
+    requires { ⌜ place .links ≤ 65535 ⌝ }
     ensures { λ r. ⌜ Prepares (settledOn (now (archive .entry)) (meant (now (archive .entry)) place) (basisBy wind spitz (now (archive .entry)) (meant (now (archive .entry)) place))) (now (sheet .exit)) r ⌝ }
 {
     let mut table = [0u64; 1001];
@@ -125,7 +125,7 @@ fn off_curve(
 ) -> Prepared
     requires { ⌜ Lies (now archive) place ⌝ }
     requires { ⌜ Bounded reference × OffCurve reference ⌝ }
-    requires { ⌜ (length (now sheet) ≡ 2976) × (place .links ≤ 65535) × (links ≤ 131072) ⌝ }
+    requires { ⌜ (place .links ≤ 65535) × (links ≤ 131072) ⌝ }
     ensures { λ r. ⌜ ((points : List Point) → Prepares (settledOn (now (archive .entry)) (meant (now (archive .entry)) place) (given (record { reference = meaning reference points; links = links }))) (now (sheet .exit)) r) ⌝ }
 {
     let table: [u64; 1] = [0];
@@ -137,7 +137,7 @@ fn off_curve(
 fn from_before(archive: &[u8], place: Place, based: Based, sheet: &mut [u64]) -> Prepared
     requires { ⌜ Lies (now archive) place ⌝ }
     requires { ⌜ BasedOffCurve based ⌝ }
-    requires { ⌜ (length (now sheet) ≡ 2976) × (place .links ≤ 65535) ⌝ }
+    requires { ⌜ place .links ≤ 65535 ⌝ }
     ensures { λ r. ⌜ ((o : Outcome Basis) → based ≡ basedAnswer o → HeldWell o → Prepares (settledOn (now (archive .entry)) (meant (now (archive .entry)) place) o) (now (sheet .exit)) r) ⌝ }
 {
     match based {
@@ -150,7 +150,7 @@ fn from_before(archive: &[u8], place: Place, based: Based, sheet: &mut [u64]) ->
 fn from_basis(archive: &[u8], place: Place, sheet: &mut [u64]) -> Prepared
     requires { ⌜ Lies (now archive) place ⌝ }
     requires { ⌜ plantAllowed (recordAt (now archive) (place .plant)) ≡ true ⌝ }
-    requires { ⌜ (length (now sheet) ≡ 2976) × (place .links ≤ 65535) ⌝ }
+    requires { ⌜ place .links ≤ 65535 ⌝ }
     ensures { λ r. ⌜ Prepares (settledOn (now (archive .entry)) (meant (now (archive .entry)) place) (basisOf (now (archive .entry)) (meant (now (archive .entry)) place))) (now (sheet .exit)) r ⌝ }
 {
     let i = place.plant as usize;
@@ -186,9 +186,8 @@ fn from_basis(archive: &[u8], place: Place, sheet: &mut [u64]) -> Prepared
     }
 }
 
-// The exact magnitudes into the sheet: 1 to 12.
+// The exact magnitudes into the sheet, as far as it has places: 1 to 12.
 pub fn prepare(archive: &[u8], p: u64, k: u64, sheet: &mut [u64]) -> Prepared
-    requires { ⌜ length (now sheet) ≡ 2976 ⌝ }
     ensures { λ r. ⌜ Prepares (settled (now (archive .entry)) p k) (now (sheet .exit)) r ⌝ }
 {
     match place::find(archive, p, k) {
@@ -209,9 +208,10 @@ fn number(prepared: Prepared) -> u64
     }
 }
 
-// Nothing lent is written before every test has passed; then the amounts are booked from the sheet into the list.
+// Nothing lent is written before every test has passed; then the amounts are booked from the sheet into the list. The sheet has a place for
+// each quarter that the list can take.
 fn settle_on(archive: &[u8], p: u64, k: u64, list: &mut [i64], sheet: &mut [u64]) -> Settled
-    requires { ⌜ length (now sheet) ≡ 2976 ⌝ }
+    requires { ⌜ min (length (now list)) 2976 ≤ length (now sheet) ⌝ }
     ensures { λ r. ⌜ Settles (now (archive .entry)) p k (now (list .entry)) (now (list .exit)) (answered r) ⌝ }
 {
     let prepared = prepare(archive, p, k, sheet);
@@ -224,13 +224,17 @@ fn settle_on(archive: &[u8], p: u64, k: u64, list: &mut [i64], sheet: &mut [u64]
     }
     let direction = measure.direction;
     let total = energy::carry::book_all(direction, measure.denominator, &sheet[..count], list);
-    Settled::Given(measure.count, WattHour(total), measure.links)
+    Settled::Given(measure.count, total, measure.links)
 }
 
-// Plant place p and measure place k, both counted from 1 along their chains.
+// Plant place p and measure place k, both counted from 1 along their chains. A list for a day needs only a short sheet, which is sooner cleared.
 pub fn settle(archive: &[u8], p: u64, k: u64, list: &mut [i64]) -> Settled
     ensures { λ r. ⌜ Settles (now (archive .entry)) p k (now (list .entry)) (now (list .exit)) (answered r) ⌝ }
 {
+    if list.len() <= 96 {
+        let mut sheet = [0u64; 96];
+        return settle_on(archive, p, k, list, &mut sheet);
+    }
     let mut sheet = [0u64; 2976];
     settle_on(archive, p, k, list, &mut sheet)
 }

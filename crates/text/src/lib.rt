@@ -8,7 +8,7 @@ ghost use Rattle.rules.specs.Encoding.{put};
 ghost use Rattle.rules.specs.Output.{decimal, signedDecimal, textOf, measureLine, quarterLine, refusalLine};
 ghost use Rattle.text.specs.Writes.{Writes};
 
-fn put_byte(out: &mut [u8], at: usize, byte: u8) -> usize
+pub fn put_byte(out: &mut [u8], at: usize, byte: u8) -> usize
     requires { ⌜ at < length (now out) ⌝ }
     ensures { λ r. ⌜ Writes (now (out .entry)) at (byte ∷ []) (now (out .exit)) r × (r ≤ at + 1) ⌝ }
 {
@@ -56,7 +56,7 @@ pub fn put_decimal(out: &mut [u8], at: usize, n: u64) -> usize
 }
 
 // A number without its sign.
-fn magnitude(z: i64) -> u64
+pub fn magnitude(z: i64) -> u64
     ensures { λ r. ⌜ r ≡ natAbs z ⌝ }
 {
     if z < 0 {
@@ -82,7 +82,7 @@ pub fn put_signed(out: &mut [u8], at: usize, z: i64) -> usize
 
 const SPACE: u8 = b' ';
 
-fn put_number(out: &mut [u8], at: usize, n: u64) -> usize
+pub fn put_number(out: &mut [u8], at: usize, n: u64) -> usize
     requires { ⌜ at + 21 ≤ length (now out) ⌝ }
     ensures { λ r. ⌜ Writes (now (out .entry)) at (32 ∷ decimal n) (now (out .exit)) r × (r ≤ at + 21) ⌝ }
 {
@@ -90,7 +90,7 @@ fn put_number(out: &mut [u8], at: usize, n: u64) -> usize
     put_decimal(out, first, n)
 }
 
-fn put_amount(out: &mut [u8], at: usize, z: i64) -> usize
+pub fn put_amount(out: &mut [u8], at: usize, z: i64) -> usize
     requires { ⌜ at + 22 ≤ length (now out) ⌝ }
     ensures { λ r. ⌜ Writes (now (out .entry)) at (32 ∷ signedDecimal z) (now (out .exit)) r × (r ≤ at + 22) ⌝ }
 {

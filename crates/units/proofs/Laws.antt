@@ -1,7 +1,7 @@
 -- Words as signed numbers, and signed numbers as the code holds them: by their bits `ofZ w64 z`, which `toZ w64` reads.
 use mathlib.Core.Path.{_≡_, refl, sym, ap, _∙_, subst}
 use mathlib.Core.Bool.{Bool, true, false}
-use Prim.Native.Nat.{ℕ, suc, _+_, _-_, _^_, _≤_, _<_}
+use Prim.Native.Nat.{ℕ, _+_, _-_, _^_, _≤_, _<_}
 use native.Mathlib.Omega.{arith}
 use borrow.Author.Tests.{lt-ltb, ltb-false, le-leb, lt-leb, leb-true}
 use lib.Dec.{T, leb, ltb}
@@ -12,7 +12,7 @@ use mir.Val.{Fits, SFits, toZ, ofZ}
 use mir.Facts.{toZ-pos, toZ-ofZ}
 use Rattle.rules.specs.Numbers.{within, orZero}
 use Rattle.rules.specs.Archive.{twos}
-use Rattle.rules.proofs.Ints.{under, orZero-sub, under-sub, orZero-add, under-add, orZero-neg, under-neg, parts-eq, biased-eq, mag-parts, parts-mag}
+use Rattle.rules.proofs.Ints.{under, orZero-sub, under-sub, sub-parts, orZero-add, under-add, orZero-minus, under-minus, orZero-neg, under-neg, parts-eq, biased-eq, mag-parts, parts-mag}
 
 -- ---- words
 
@@ -38,18 +38,23 @@ module _ (high w : ℕ) (h : high < 2 ^ 31) (k : w < 2 ^ 32) where
 abbrev pub held : ℤ → ℤ
 held z = toZ w64 (ofZ w64 z)
 
-back : (z : ℤ) → mag z < 2 ^ 63 → held z ≡ z
+pub back : (z : ℤ) → mag z < 2 ^ 63 → held z ≡ z
 back z h = toZ-ofZ {w = w64} {z = z} (record { sfits = h })
 
--- `n as i64 - LITERAL`, the literal being b + 1
+-- `n as i64 - LITERAL`, the literal being b; and `n as i64 - b as i64`
 module _ (n b : ℕ) (hn : n < 2 ^ 63) (hb : b < 2 ^ 63) where
-  pub minus-fits : SFits w64 (toZ w64 n -ℤ pos (suc b))
-  minus-fits = subst (λ (z : ℤ). SFits w64 (z -ℤ pos (suc b))) (sym (toZ-pos w64 hn)) (record {
-    sfits = mag-parts (subℕ n (suc b)) (omega (arith, orZero-sub n (suc b))) (omega (arith, under-sub n (suc b)));
+  minus-held : toZ w64 n -ℤ pos b ≡ subℕ n b
+  minus-held =
+      ap (λ (z : ℤ). z -ℤ pos b) (toZ-pos w64 hn)
+      ∙ parts-eq (pos n -ℤ pos b) (subℕ n b) (omega (arith, orZero-minus (pos n) (pos b), under-minus (pos n) (pos b), sub-parts n b))
+
+  pub minus-fits : SFits w64 (toZ w64 n -ℤ pos b)
+  minus-fits = subst (SFits w64) (sym minus-held) (record {
+    sfits = mag-parts (subℕ n b) (omega (arith, orZero-sub n b)) (omega (arith, under-sub n b));
   })
 
-  pub minus-is : held (toZ w64 n -ℤ pos (suc b)) ≡ subℕ n (suc b)
-  minus-is = toZ-ofZ minus-fits ∙ ap (λ (z : ℤ). z -ℤ pos (suc b)) (toZ-pos w64 hn)
+  pub minus-is : held (toZ w64 n -ℤ pos b) ≡ subℕ n b
+  minus-is = toZ-ofZ minus-fits ∙ minus-held
 
 -- `-(n as i64)`
 module _ (n : ℕ) (h : n < 2 ^ 63) where

@@ -4,8 +4,8 @@ ghost use mathlib.Core.Path.{_≡_};
 ghost use mathlib.Core.Bool.{true};
 ghost use Prim.Native.Nat.{_≤_, _<_, _^_};
 ghost use lib.Dec.{ltb};
-ghost use lib.IntN.{pos, subℕ, _+ℤ_};
-ghost use lib.Signed.{leZ, mag};
+ghost use lib.IntN.{pos, subℕ};
+ghost use lib.Signed.{leZ};
 ghost use Rattle.rules.specs.Numbers.{orZero, within, smaller, larger};
 ghost use Rattle.rules.specs.Archive.{twos};
 ghost use Rattle.rules.specs.Terms.{isPower, isNominalPower, isCurvePower, isSpeed, isIrradiance};
@@ -86,7 +86,7 @@ pub fn unsigned(a: Watt) -> u64
     a.0 as u64
 }
 
-// A power raised by 1,000,000,000, for arithmetic without a sign, and the way back.
+// A power raised by 1,000,000,000, for arithmetic without a sign.
 pub fn raised(a: Watt) -> u64
     requires { ⌜ isPower (a .0) ≡ true ⌝ }
     ensures { λ r. ⌜ (a .0 ≡ subℕ r 1000000000) × (r ≤ 2000000000) ⌝ }
@@ -94,11 +94,12 @@ pub fn raised(a: Watt) -> u64
     (a.0 + 1000000000) as u64
 }
 
-pub fn lowered(n: u64) -> Watt
-    requires { ⌜ n ≤ 2000000000 ⌝ }
-    ensures { λ r. ⌜ r .0 ≡ subℕ n 1000000000 ⌝ }
+// The way back, from a power or a sum of powers that was raised by so much in all.
+pub fn lowered(n: u64, by: u64) -> Watt
+    requires { ⌜ (n < 2 ^ 63) × (by < 2 ^ 63) ⌝ }
+    ensures { λ r. ⌜ r .0 ≡ subℕ n by ⌝ }
 {
-    Watt(n as i64 - 1000000000)
+    Watt(n as i64 - by as i64)
 }
 
 // ---- energy
@@ -112,13 +113,6 @@ pub fn booked(direction: Direction, amount: u64) -> WattHour
         Direction::Positive => WattHour(-(amount as i64)),
         Direction::Negative => WattHour(amount as i64),
     }
-}
-
-pub fn add(a: WattHour, b: WattHour) -> WattHour
-    requires { ⌜ mag (a .0 +ℤ b .0) < 2 ^ 63 ⌝ }
-    ensures { λ r. ⌜ r .0 ≡ a .0 +ℤ b .0 ⌝ }
-{
-    WattHour(a.0 + b.0)
 }
 
 // ---- weather

@@ -186,7 +186,7 @@ fn each(seed: u64, archives: usize, mut take: impl FnMut(u64, Case) -> io::Resul
         for case in iter::once(case).chain(others) {
             take(index, case)?;
         }
-        if index.is_multiple_of(INPUTS) {
+        if index % INPUTS == 0 {
             made.inputs += 1;
             take(index, Case { call: PROGRAM, archive: generate::input(seed, index), ..Case::default() })?;
         }

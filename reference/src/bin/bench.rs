@@ -1,15 +1,20 @@
 //! Times the linked library against the module `fast`, both on host bytes in one run, and prints Markdown tables.
 //!
-//! Argument: repetitions (201). Each figure is the median over them; the two sides take turns. A repetition is short,
-//! so that other work on the machine falls into few of them.
+//! Arguments: the program to be timed, repetitions (201). Each figure is the median over them; the two sides take turns.
+//! A repetition is short, so that other work on the machine falls into few of them.
 
 #[path = "shared/host.rs"]
 mod host;
 
 use reference::builder::*;
 use reference::fast;
+use reference::generate;
+use reference::program::MOST_BYTES;
 use reference::rng::Rng;
+use std::fs::{self, File};
 use std::hint::black_box;
+use std::path::Path;
+use std::process::{Command, Stdio};
 use std::time::{Duration, Instant};
 
 /// Shortest time of one repetition.
@@ -163,8 +168,37 @@ fn append(repetitions: usize, length: usize, rng: &mut Rng) -> (f64, f64) {
     )
 }
 
+/// An archive of 65,536 bytes with measures of 96 before-quarters and 192 quarters in every pairing.
+fn ordinary(rng: &mut Rng) -> Vec<u8> {
+    let plants: Vec<Plant> =
+        PAIRINGS.iter().map(|&(technology, variant, _)| sheet(technology, variant, 26, 96, 192, rng)).collect();
+    let mut archive = file(&plants, &Layout::PLAIN, rng).bytes;
+    archive.resize(MOST_BYTES, 0);
+    archive
+}
+
+/// Milliseconds of a run of each program, its start with it, on an input; its output goes nowhere.
+fn programs(repetitions: usize, program: &Path, fast: &Path, input: &[u8]) -> (f64, f64) {
+    let name = std::env::temp_dir().join(format!("sandegmur-bench-{}", std::process::id()));
+    fs::write(&name, input).expect("a file for the input");
+    let start = |path: &Path, output: Stdio| {
+        let mut command = Command::new(path);
+        command.stdin(File::open(&name).expect("the input")).stdout(output);
+        command
+    };
+    let printed = |path| start(path, Stdio::piped()).output().expect("a program that starts").stdout;
+    assert!(printed(program) == printed(fast), "the programs' outputs differ");
+    let once = |path| assert!(start(path, Stdio::null()).status().expect("a program that starts").success());
+    let times = both(repetitions, &mut || once(program), &mut || once(fast));
+    fs::remove_file(&name).expect("the input's file");
+    times
+}
+
 fn main() {
-    let repetitions = std::env::args().nth(1).map_or(201, |word| word.parse().expect("repetitions are a number"));
+    let mut arguments = std::env::args_os().skip(1);
+    let program = arguments.next().expect("usage: bench PROGRAM [REPETITIONS]");
+    let word = arguments.next().map(|word| word.into_string().expect("repetitions are a number"));
+    let repetitions = word.map_or(201, |word| word.parse().expect("repetitions are a number"));
     let rng = &mut Rng::new(7, 7);
     println!("Library and `fast` in one run, both on host bytes, by turns; median of {repetitions} repetitions of at");
     println!(
@@ -210,5 +244,20 @@ fn main() {
     header("Append at the end of a chain of quarters (and taking the record off again)", "ns per call");
     for length in [10, 100, 1_000, 10_000, 60_000] {
         row(&format!("{length} quarters"), append(repetitions, length, rng), 1.0);
+    }
+
+    header("The program, as a process on 65,536 bytes, its output to nowhere", "ms per run");
+    let (program, own) = (Path::new(&program), std::env::current_exe().expect("the path of this program"));
+    let fast = own.with_file_name("fast");
+    let mut none = vec![0; MOST_BYTES];
+    assert_eq!(reference::fresh(&mut none), 0);
+    let shared = generate::shared(40, 40, 1_967, 1_234_567, rng);
+    let cases = [
+        ("no plant", none, 51),
+        ("six measures of 192 quarters", ordinary(rng), 51),
+        ("40 plants share 40 measures that share 1,967 quarters", shared, 11),
+    ];
+    for (name, input, most) in cases {
+        row(name, programs(repetitions.min(most), program, &fast, &input), 1e6);
     }
 }

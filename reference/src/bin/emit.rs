@@ -15,7 +15,7 @@ struct Limited(Vec<u8>);
 impl Write for Limited {
     fn write(&mut self, bytes: &[u8]) -> io::Result<usize> {
         if self.0.len() + bytes.len() >= MOST {
-            return Err(io::Error::other("output too long"));
+            return Err(io::Error::new(io::ErrorKind::Other, "output too long"));
         }
         self.0.extend_from_slice(bytes);
         Ok(bytes.len())
@@ -28,9 +28,12 @@ impl Write for Limited {
 
 fn main() -> io::Result<()> {
     let words: Vec<String> = env::args().skip(1).collect();
-    let [directory, seed, count] = &words[..] else {
-        eprintln!("usage: emit DIR SEED COUNT");
-        std::process::exit(2);
+    let (directory, seed, count) = match &words[..] {
+        [directory, seed, count] => (directory, seed, count),
+        _ => {
+            eprintln!("usage: emit DIR SEED COUNT");
+            std::process::exit(2);
+        }
     };
     let seed: u64 = seed.parse().expect("the seed is a number");
     let count: u64 = count.parse().expect("the count is a number");

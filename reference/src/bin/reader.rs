@@ -62,7 +62,7 @@ struct Archive<'a> {
 }
 
 fn length_allowed(length: usize) -> bool {
-    length.is_multiple_of(RECORD) && length != 0 && length <= RECORD * MOST_RECORDS
+    length % RECORD == 0 && length != 0 && length <= RECORD * MOST_RECORDS
 }
 
 impl<'a> Archive<'a> {

@@ -4,9 +4,9 @@
 //! Exit status 1 if a refusal number, a pairing or a slip was never reached, or a call made with one fault got
 //! another number.
 
-use reference::archive::{field, place, record, used, FIRST, MEASURE, PLANT, SECOND};
-use reference::generate::{self, Call};
-use reference::settle::Pairing;
+use reference::archive::{field, used};
+use reference::generate::{self, Call, NUMBERS, SETTLED};
+use reference::settle::{terms, Pairing};
 use reference::slips::{self, Of, Slip, SLIPS};
 use std::collections::BTreeMap;
 use std::env;
@@ -44,15 +44,6 @@ impl Tally {
     }
 }
 
-/// Technology, variant, direction and execution of a measure that settles.
-fn side(archive: &[u8], p: u64, k: u64) -> Option<(Pairing, u8, u8)> {
-    let used = used(archive).ok()?;
-    let plant = place(archive, used, 0, FIRST, PLANT, p, 4).ok()?;
-    let measure = place(archive, used, plant, SECOND, MEASURE, k, 5).ok()?;
-    let (plant, measure) = (record(archive, plant), record(archive, measure));
-    Some((Pairing::of(plant[1], plant[2])?, measure[1], measure[2]))
-}
-
 fn one_call(tally: &mut Tally, seed: u64, index: u64) {
     let case = generate::call(seed, index);
     let number = match case.call {
@@ -61,8 +52,8 @@ fn one_call(tally: &mut Tally, seed: u64, index: u64) {
             let number = reference::host_settle(&archive, p, k, &mut later, &mut lent);
             tally.number("settle", number);
             if number == 0 {
-                if let Some(side) = side(&archive, p, k) {
-                    *tally.settled.entry(side).or_default() += 1;
+                if let Some(terms) = terms(&archive, p, k) {
+                    *tally.settled.entry(terms).or_default() += 1;
                 }
                 let count = u64::from_le_bytes(lent[0..8].try_into().unwrap()) as usize;
                 let links = u64::from_le_bytes(lent[16..24].try_into().unwrap());
@@ -177,15 +168,10 @@ fn main() -> ExitCode {
 
     let mut missed = Vec::new();
     println!("Seed {seed}, {count} calls and {} inputs for the program.", count / 20);
-    let wanted: [(&str, &[u32]); 5] = [
-        ("settle", &[0, 1, 2, 3, 4, 5, 6, 7, 8, 9, 10, 11, 12, 13]),
-        ("append", &[0, 1, 2, 3, 14, 15, 16]),
-        ("audit", &[0, 1, 2, 3, 17]),
-        ("fresh", &[0, 1]),
-        ("program", &[0, 1, 2, 3, 6, 7, 8, 9, 10, 11, 12]),
-    ];
+    let mut wanted = NUMBERS.to_vec();
+    wanted.push(("program", &[0, 1, 2, 3, 6, 7, 8, 9, 10, 11, 12]));
     println!("\nNumbers (program: M lines as 0, E lines by number)");
-    for (call, numbers) in wanted {
+    for &(call, numbers) in &wanted {
         print!("  {call}:");
         for &number in numbers {
             let times = tally.numbers.get(&(call, number)).copied().unwrap_or(0);
@@ -203,19 +189,14 @@ fn main() -> ExitCode {
     }
 
     println!("\nSettled, by pairing and direction: executions 1, 2, 3");
-    use Pairing::*;
-    for pairing in [WindSpitz, WindPauschal, SolarSpitz, SolarPauschal, OtherSpitz, OtherPauschal] {
-        for (direction, name) in [(2, "negative"), (1, "positive")] {
-            if direction == 1 && !matches!(pairing, OtherSpitz | OtherPauschal) {
-                continue;
-            }
-            let times: Vec<u64> = (1..=3)
-                .map(|execution| tally.settled.get(&(pairing, direction, execution)).copied().unwrap_or(0))
-                .collect();
-            println!("  {pairing:?} {name}: {times:?}");
-            if times.contains(&0) {
-                missed.push(format!("{pairing:?} {name} never settled in some execution"));
-            }
+    for (pairing, direction) in SETTLED {
+        let name = if direction == 1 { "positive" } else { "negative" };
+        let times: Vec<u64> = (1..=3)
+            .map(|execution| tally.settled.get(&(pairing, direction, execution)).copied().unwrap_or(0))
+            .collect();
+        println!("  {pairing:?} {name}: {times:?}");
+        if times.contains(&0) {
+            missed.push(format!("{pairing:?} {name} never settled in some execution"));
         }
     }
 

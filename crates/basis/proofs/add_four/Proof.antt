@@ -1,8 +1,10 @@
 -- `basis::add_four` meets its contract.
-use mathlib.Core.Path.{sym, _∙_}
+use mathlib.Core.Path.{sym, ap, _∙_}
+use Prim.Native.Nat.{_≤_}
 use native.Mathlib.Omega.{arith}
 use borrow.Author.Needs.{needs}
 use borrow.Author.Tests.{not-true, not-false}
+use Rattle.rules.specs.Numbers.{orZero}
 use Rattle.basis.proofs.Taken.{grown-none, grown-one, four-full, four-out, four-low, four-weather, four-used}
 use Rattle.basis.proofs.add_four.Statement.{statement}
 use Rattle.basis.proofs.add_four.Tie as tie
@@ -63,18 +65,22 @@ power-at-requires c κs = search needs
 sub-plus : tie.Need-sub-plus
 sub-plus c = search needs
 
+unsigned-requires : tie.Need-unsigned-requires
+unsigned-requires c κs = c .power-at .ensures .1
+
 plus-requires : tie.Need-plus-requires
-plus-requires c κs = search needs
+plus-requires c κs = let u : c .unsigned .result ≤ 1000000000 = omega (arith, c .unsigned .ensures, c .before .power-at .ensures .2) in search needs
 
 returns-5 : tie.Need-returns-5
 returns-5 c =
-    let a = c .before .before .before .before .before .before .before .before .before .before .before .before .before .before .before .args in
-    let m = c .before .before .before .before .before .before .before .before .before .before .measured-of in
-    let v = c .before .power-at in (
-      (λ points t. four-used points (a .sums) (a .r .now) (m .result .0) (m .ensures) (sym (c .before .before .before .before .before .before .before .before .before .in-power-range .ensures) ∙ not-false _ (c .before .before .before .before .before .before .before .before .if2 .left)) (c .before .before .before .before .before .before .before .raised .result) (c .before .before .before .before .before .before .before .raised .ensures .0) (a .pn) (omega arith) (omega arith)
-          (c .before .before .before .before .before .weather-of .result) (c .before .before .before .before .before .weather-of .ensures .0) (sym (c .before .before .before .before .is-speed .ensures) ∙ not-false _ (c .before .before .before .if4 .left))
-          (c .before .before .speed-of .result .0) (v .result) (c .plus .result) (c .before .before .speed-of .ensures .0) (v .ensures .0 points t) (c .plus .ensures)),
-      grown-one (a .sums) (c .before .before .before .before .before .before .before .before .before .before .before .before .before .before .before .pre .1 .0) (c .plus .result) _ _ (c .plus .ensures) (omega arith) (omega arith) (v .ensures .1),
+    let a = c .before .before .before .before .before .before .before .before .before .before .before .before .before .before .before .before .args in
+    let m = c .before .before .before .before .before .before .before .before .before .before .before .measured-of in
+    let v = c .before .before .power-at in
+    let u = c .before .unsigned in (
+      (λ points t. four-used points (a .sums) (a .r .now) (m .result .0) (m .ensures) (sym (c .before .before .before .before .before .before .before .before .before .before .in-power-range .ensures) ∙ not-false _ (c .before .before .before .before .before .before .before .before .before .if2 .left)) (c .before .before .before .before .before .before .before .before .raised .result) (c .before .before .before .before .before .before .before .before .raised .ensures .0) (a .pn) (omega arith) (omega arith)
+          (c .before .before .before .before .before .before .weather-of .result) (c .before .before .before .before .before .before .weather-of .ensures .0) (sym (c .before .before .before .before .before .is-speed .ensures) ∙ not-false _ (c .before .before .before .before .if4 .left))
+          (c .before .before .before .speed-of .result .0) (u .result) (c .plus .result) (c .before .before .before .speed-of .ensures .0) (u .ensures ∙ ap orZero (v .ensures .0 points t)) (c .plus .ensures)),
+      grown-one (a .sums) (c .before .before .before .before .before .before .before .before .before .before .before .before .before .before .before .before .pre .1 .0) (c .plus .result) _ _ (c .plus .ensures) (omega arith) (omega arith) (omega (arith, u .ensures, v .ensures .2)),
     )
 
 pub add-four-spec : {M : Type 1} → statement M
@@ -95,5 +101,6 @@ add-four-spec =
     speed-of-requires
     power-at-requires
     sub-plus
+    unsigned-requires
     plus-requires
     returns-5)

@@ -1,9 +1,10 @@
 -- `basis::pauschal` meets its contract.
 use mathlib.Core.List.{[]}
 use native.Mathlib.Nat.{zero-add}
+use native.Mathlib.Omega.{arith}
 use borrow.Author.Needs.{needs}
 use Rattle.place.specs.Places.{meant}
-use Rattle.basis.proofs.Answers.{pauschal-is, based-refused, based-of, first-few, first-on}
+use Rattle.basis.proofs.Answers.{pauschal-is, based-refused, based-of, room-of, first-few, first-on}
 use Rattle.basis.proofs.pauschal.Statement.{statement}
 use Rattle.basis.proofs.pauschal.Tie as tie
 
@@ -24,16 +25,23 @@ returns c =
     based-of _ (g .result) (g .ensures .0 [] tt) _ _ (pauschal-is (a .archive .now) (meant (a .archive .now) (a .place))) (w .0 .0) (w .1) _
     (first-few _ (w .0 .0 .sums) (c .if1 .taken))
 
+lowered-requires : tie.Need-lowered-requires
+lowered-requires c κs =
+    let g = c .before .before .before .before .before .gather in
+    let w = c .before .before .before .first .given in
+    let room = room-of (g .result) (w .0 .0) (w .1) (g .ensures .1) in
+    (omega (arith, room .0 .room .low-a, room .0 .room .few), omega arith)
+
 enum-known-n : tie.Need-enum-known-n
 enum-known-n c = search needs
 
 returns-2 : tie.Need-returns-2
 returns-2 c =
-    let a = c .before .before .before .before .before .before .before .before .args in
-    let g = c .before .before .before .before .before .gather in
-    let w = c .before .before .before .first .given in
+    let a = c .before .before .before .before .before .before .before .before .before .args in
+    let g = c .before .before .before .before .before .before .gather in
+    let w = c .before .before .before .before .first .given in
     based-of _ (g .result) (g .ensures .0 [] tt) _ _ (pauschal-is (a .archive .now) (meant (a .archive .now) (a .place))) (w .0 .0) (w .1) _
-    (rw (zero-add (w .0 .0 .count)) (first-on _ (w .0 .0 .sums) (c .if1 .left)))
+    (rw (zero-add (w .0 .0 .count)) (first-on _ (w .0 .0 .sums) (c .before .if1 .left) (c .lowered .result) (c .lowered .ensures)))
 
 returns-3 : tie.Need-returns-3
 returns-3 c =
@@ -50,6 +58,7 @@ pauschal-spec =
     gather-requires
     enum-known-first
     returns
+    lowered-requires
     enum-known-n
     returns-2
     returns-3)

@@ -33,23 +33,18 @@ returns-2 c =
     based-of _ (g .result) (g .ensures .0 [] tt) _ _ (solar-is (a .archive .now) (meant (a .archive .now) (a .place))) (w .0 .0) (w .1) _
     (all-zero _ (w .0 .0 .sums) (c .before .before .if1 .left) (c .if2 .taken))
 
-sub-a : tie.Need-sub-a
-sub-a c =
+mul-lowered : tie.Need-mul-lowered
+mul-lowered c =
     let g = c .before .before .before .before .before .before .before .before .gather in
     let w = c .before .before .before .before .before .before .all .given in
-    let room = room-of (g .result) (w .0 .0) (w .1) (g .ensures .1) in omega arith
+    let room = room-of (g .result) (w .0 .0) (w .1) (g .ensures .1) in omega (arith, room .0 .room .few)
 
-mul-a : tie.Need-mul-a
-mul-a c =
+lowered-requires : tie.Need-lowered-requires
+lowered-requires c κs =
     let g = c .before .before .before .before .before .before .before .before .gather in
     let w = c .before .before .before .before .before .before .all .given in
-    let room = room-of (g .result) (w .0 .0) (w .1) (g .ensures .1) in omega arith
-
-add-a : tie.Need-add-a
-add-a c =
-    let g = c .before .before .before .before .before .before .before .before .before .gather in
-    let w = c .before .before .before .before .before .before .before .all .given in
-    let room = room-of (g .result) (w .0 .0) (w .1) (g .ensures .1) in omega arith
+    let room = room-of (g .result) (w .0 .0) (w .1) (g .ensures .1) in
+    (omega (arith, room .0 .room .low-a, room .0 .room .few), omega (arith, room .0 .room .few))
 
 enum-known-n : tie.Need-enum-known-n
 enum-known-n c = search needs
@@ -60,7 +55,7 @@ returns-3 c =
     let g = c .before .before .before .before .before .before .before .before .before .gather in
     let w = c .before .before .before .before .before .before .before .all .given in
     based-of _ (g .result) (g .ensures .0 [] tt) _ _ (solar-is (a .archive .now) (meant (a .archive .now) (a .place))) (w .0 .0) (w .1) _
-    (rw (zero-add (w .0 .0 .count)) (all-on _ (w .0 .0 .sums) (c .before .before .before .before .if1 .left) (c .before .before .if2 .left) (room-of (g .result) (w .0 .0) (w .1) (g .ensures .1) .0 .room .few)))
+    (rw (zero-add (w .0 .0 .count)) (all-on _ (w .0 .0 .sums) (c .before .before .before .before .if1 .left) (c .before .before .if2 .left) (c .lowered .result) (c .lowered .ensures)))
 
 returns-4 : tie.Need-returns-4
 returns-4 c =
@@ -78,9 +73,8 @@ solar-spec =
     enum-known-all
     returns
     returns-2
-    sub-a
-    mul-a
-    add-a
+    mul-lowered
+    lowered-requires
     enum-known-n
     returns-3
     returns-4)

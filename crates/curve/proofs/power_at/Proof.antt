@@ -1,6 +1,6 @@
 -- `curve::power_at` meets its contract. Assumes nothing.
 use borrow.Author.Needs.{needs}
-use Rattle.curve.proofs.Readings.{on-natural, says-below, says-on, says-above}
+use Rattle.curve.proofs.Readings.{says-below, says-on, says-above}
 use Rattle.curve.proofs.power_at.Statement.{statement}
 use Rattle.curve.proofs.power_at.Tie as tie
 
@@ -12,13 +12,6 @@ enum-told c = search needs
 
 enum-known-reading : tie.Need-enum-known-reading
 enum-known-reading c = search needs
-
-unsigned-requires : tie.Need-unsigned-requires
-unsigned-requires c κs =
-    let a = c .before .before .before .before .before .args in
-    let f = c .before .before .before .read-curve in
-    let r = c .before .reading .given in
-    on-natural (a .curve) (a .table .now) (a .speed .0) (f .result) (f .ensures) (r .0 .0) (r .1)
 
 enum-told-2 : tie.Need-enum-told-2
 enum-told-2 c = search needs
@@ -32,11 +25,11 @@ returns c =
 
 returns-2 : tie.Need-returns-2
 returns-2 c =
-    let p = c .before .before .before .before .before .before in
+    let p = c .before .before .before .before .before in
     let a = p .args in
-    let f = c .before .before .before .before .read-curve in
-    let r = c .before .before .reading .given in
-    says-on (a .curve) (a .table .now) (a .speed .0) (f .result) (f .ensures) (p .pre .1) (p .pre .2) (r .0 .0) (c .unsigned .result) (r .1) (c .unsigned .ensures)
+    let f = c .before .before .before .read-curve in
+    let r = c .before .reading .given in
+    says-on (a .curve) (a .table .now) (a .speed .0) (f .result) (f .ensures) (p .pre .1) (p .pre .2) (r .0 .0) (r .1)
 
 returns-3 : tie.Need-returns-3
 returns-3 c =
@@ -52,7 +45,6 @@ power-at-spec =
     read-curve-requires
     enum-told
     enum-known-reading
-    unsigned-requires
     enum-told-2
     returns
     returns-2

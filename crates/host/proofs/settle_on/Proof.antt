@@ -1,11 +1,13 @@
 use Rattle.settle.proofs.Laws.{ready}
 use Rattle.rules.specs.Settle.{settled}
 -- `host::settle_on` meets its contract.
+use mathlib.Core.Path.{sym}
+use Prim.Native.Nat.{_/_, _≤_, min}
 use native.Mathlib.Omega.{arith}
-use lib.ListN.{length-take}
+use lib.ListN.{length}
 use borrow.Author.Needs.{needs}
 use Rattle.settle.specs.Answers.{Stands}
-use Rattle.host.proofs.Settling.{refusal-small, unready, list-short, result-wrong, list-long, all-written}
+use Rattle.host.proofs.Settling.{refusal-small, unready, list-short, result-wrong, in-sheet, sheet-length, list-long, all-written}
 use Rattle.host.proofs.settle_on.Statement.{statement}
 use Rattle.host.proofs.settle_on.Tie as tie
 use Rattle.host.proofs.settle_on.Reads as reads
@@ -34,6 +36,11 @@ stands c =
     let a = c .before .before .before .before .before .before .before .before .before .before .args in
     let x = c .before .before .before .before .prepare in
     ready (a .archive .now) (a .p) (a .k) (x .last .1 .1 .1 .0) (x .result) (x .ensures) (c .measure .given .0 .0) (c .measure .given .1)
+
+-- its sheet has a place for each quarter that the list can take
+roomy : (c : lts.After-measure claims reads.Pre reads.Post)
+    → min (length (c .before .before .before .before .before .before .before .before .before .before .args .list .now) / 8) 2976 ≤ length (c .before .before .before .before .prepare .last .1 .1 .1 .0)
+roomy c = omega (arith, c .before .before .before .before .before .before .before .before .before .before .pre, c .before .before .before .before .prepare .kept .1 .1 .1 .0)
 
 prepare-requires : tie.Need-prepare-requires
 prepare-requires c κs = search needs
@@ -82,16 +89,26 @@ returns-3 c =
     result-wrong (a .archive .now) (a .p) (a .k) (a .list .now) (a .result .now) _ _ (stands (c .before .before .before)) (c .before .if1 .left) (c .if2 .taken)
 
 slice-reshare-prefix-book-bytes : tie.Need-slice-reshare-prefix-book-bytes
-slice-reshare-prefix-book-bytes c = let s = stands (c .before .before .before) in omega (arith, s .few, s .size)
+slice-reshare-prefix-book-bytes c =
+    let a = c .before .before .before .before .before .before .before .before .before .before .before .before .before in
+    in-sheet (a .args .archive .now) (a .args .p) (a .args .k) (a .args .list .now) (a .args .result .now) _ _ (stands (c .before .before .before)) (roomy (c .before .before .before)) (c .before .if1 .left)
 
 slice-aggregate-book-bytes : tie.Need-slice-aggregate-book-bytes
-slice-aggregate-book-bytes c = let s = stands (c .before .before .before .before) in simp length-take (omega (arith, s .few, s .size))
+slice-aggregate-book-bytes c =
+    let a = c .before .before .before .before .before .before .before .before .before .before .before .before .before .before in
+    sym (sheet-length (a .args .archive .now) (a .args .p) (a .args .k) (a .args .list .now) (a .args .result .now) _ _ (stands (c .before .before .before .before)) (roomy (c .before .before .before .before)) (c .before .before .if1 .left))
 
 book-bytes-requires : tie.Need-book-bytes-requires
 book-bytes-requires c κs =
     let a = c .before .before .before .before .before .before .before .before .before .before .before .before .before .before .before .args in
     let s = stands (c .before .before .before .before .before) in
-    (s .positive, s .low, s .fits, list-long (a .archive .now) (a .p) (a .k) (a .list .now) (a .result .now) _ _ s (c .before .before .before .if1 .left))
+    let r = roomy (c .before .before .before .before .before) in
+    let h = c .before .before .before .if1 .left in (
+      s .positive,
+      s .low,
+      s .fits (in-sheet (a .archive .now) (a .p) (a .k) (a .list .now) (a .result .now) _ _ s r h),
+      list-long (a .archive .now) (a .p) (a .k) (a .list .now) (a .result .now) _ _ s r h,
+    )
 
 bits-of-requires : tie.Need-bits-of-requires
 bits-of-requires c κs = search needs
@@ -112,7 +129,7 @@ returns-4 : tie.Need-returns-4
 returns-4 c =
     let a = c .before .before .before .before .before .before .before .before .before .before .before .before .before .before .before .before .before .before .before .before .before .before .before .args in
     let booked = c .before .before .before .before .before .before .before .book-bytes in
-    all-written (a .archive .now) (a .p) (a .k) (a .list .now) (a .result .now) _ _ (stands (c .before .before .before .before .before .before .before .before .before .before .before .before .before)) (c .before .before .before .before .before .before .before .before .before .before .before .if1 .left) (c .before .before .before .before .before .before .before .before .before .before .if2 .left) _ _ (booked .result) _ (booked .ensures .0) (booked .ensures .1) (c .before .before .before .bits-of .ensures) (c .before .before .put-result .ensures)
+    all-written (a .archive .now) (a .p) (a .k) (a .list .now) (a .result .now) _ _ (stands (c .before .before .before .before .before .before .before .before .before .before .before .before .before)) (roomy (c .before .before .before .before .before .before .before .before .before .before .before .before .before)) (c .before .before .before .before .before .before .before .before .before .before .before .if1 .left) (c .before .before .before .before .before .before .before .before .before .before .if2 .left) _ _ (booked .result) _ (booked .ensures .0) (booked .ensures .1) (c .before .before .before .bits-of .ensures) (c .before .before .put-result .ensures)
 
 pub settle-on-spec : {M : Type 1} → statement M
 settle-on-spec =

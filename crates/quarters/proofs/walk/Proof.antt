@@ -65,7 +65,7 @@ link-of-requires : tie.Need-link-of-requires Inv-loop μ-loop
 link-of-requires c κs = search needs
 
 loop-holds : tie.Need-loop-holds Inv-loop μ-loop
-loop-holds c = going-starts (omega arith) (c .before .before .before .before .before .before .before .before .pre .1 .1 .1) (c .link-of .ensures .0)
+loop-holds c = going-starts (omega arith) (c .link-of .ensures .0)
 
 follow-requires : tie.Need-follow-requires Inv-loop μ-loop
 follow-requires c κs = search needs
@@ -92,7 +92,7 @@ exact-at-requires c κs = let a = c .before .before .before .before .before .bef
     let l = c .before .before .before .before .before .loop in
     let f = c .before .before .before .follow in
     let m = met (a .archive .now) (a .place .used) 5 (l .last) (l .link) (f .result) (f .ensures) _ (c .before .answer .given .1) in
-    (omega (arith, c .before .before .before .before .before .before .before .before .before .before .before .before .before .before .pre .0 .room), (c .before .before .before .before .before .before .before .before .before .before .before .before .before .before .pre .1 .0, c .before .before .before .before .before .before .before .before .before .before .before .before .before .before .pre .1 .1 .0))
+    (omega (arith, c .before .before .before .before .before .before .before .before .before .before .before .before .before .before .pre .0 .room), (c .before .before .before .before .before .before .before .before .before .before .before .before .before .before .pre .1 .0, c .before .before .before .before .before .before .before .before .before .before .before .before .before .before .pre .1 .1))
 
 enter-requires : tie.Need-enter-requires Inv-loop μ-loop
 enter-requires c κs = search needs
@@ -130,19 +130,19 @@ same-length-2 : tie.Need-same-length-2 Inv-loop μ-loop
 same-length-2 c = search needs
 
 returns-2 : tie.Need-returns-2 Inv-loop μ-loop
-returns-2 c = walks-uncounted (c .before .before .before .before .before .before .before .before .before .before .before .before .args .place) (c .before .before .before .loop .inv) (c .before .before .loop-test .left) (c .before .before .before .before .before .before .before .before .before .before .before .before .pre .1 .1 .1) (c .before .before .before .before .before .before .before .before .before .before .before .before .pre .1 .0) (c .before .before .before .before .before .before .before .direction-of .ensures) (c .before .before .before .before .before .execution-of .ensures) (sym (c .before .in-count-range .ensures) ∙ not-true _ (c .if1 .taken))
+returns-2 c = walks-uncounted (c .before .before .before .before .before .before .before .before .before .before .before .before .args .place) (c .before .before .before .loop .inv) (c .before .before .loop-test .left) (c .before .before .before .before .before .before .before .before .before .before .before .before .pre .1 .0) (c .before .before .before .before .before .before .before .direction-of .ensures) (c .before .before .before .before .before .execution-of .ensures) (sym (c .before .in-count-range .ensures) ∙ not-true _ (c .if1 .taken))
 
 same-length-3 : tie.Need-same-length-3 Inv-loop μ-loop
 same-length-3 c = search needs
 
 returns-3 : tie.Need-returns-3 Inv-loop μ-loop
-returns-3 c = walks-unreadable (c .before .before .before .before .before .before .before .before .before .before .before .before .before .args .place) (c .before .before .before .before .loop .inv) (c .before .before .before .loop-test .left) (c .before .before .before .before .before .before .before .before .before .before .before .before .before .pre .1 .1 .1) (c .before .before .before .before .before .before .before .before .before .before .before .before .before .pre .1 .0) (c .before .before .before .before .before .before .before .before .direction-of .ensures) (c .before .before .before .before .before .before .execution-of .ensures) (sym (c .before .before .in-count-range .ensures) ∙ not-false _ (c .before .if1 .left)) (not-true _ (c .if2 .taken))
+returns-3 c = walks-unreadable (c .before .before .before .before .before .before .before .before .before .before .before .before .before .args .place) (c .before .before .before .before .loop .inv) (c .before .before .before .loop-test .left) (c .before .before .before .before .before .before .before .before .before .before .before .before .before .pre .1 .0) (c .before .before .before .before .before .before .before .before .direction-of .ensures) (c .before .before .before .before .before .before .execution-of .ensures) (sym (c .before .before .in-count-range .ensures) ∙ not-false _ (c .before .if1 .left)) (not-true _ (c .if2 .taken))
 
 same-length-4 : tie.Need-same-length-4 Inv-loop μ-loop
 same-length-4 c = search needs
 
 returns-4 : tie.Need-returns-4 Inv-loop μ-loop
-returns-4 c = walks-given (c .before .before .before .before .before .before .before .before .before .before .before .before .before .args .place) (c .before .before .before .before .loop .inv) (c .before .before .before .loop-test .left) (c .before .before .before .before .before .before .before .before .before .before .before .before .before .pre .1 .1 .1) (c .before .before .before .before .before .before .before .before .before .before .before .before .before .pre .1 .0) (c .before .before .before .before .before .before .before .before .direction-of .ensures) (c .before .before .before .before .before .before .execution-of .ensures) (sym (c .before .before .in-count-range .ensures) ∙ not-false _ (c .before .if1 .left)) (not-false _ (c .if2 .left))
+returns-4 c = walks-given (c .before .before .before .before .before .before .before .before .before .before .before .before .before .args .place) (c .before .before .before .before .loop .inv) (c .before .before .before .loop-test .left) (c .before .before .before .before .before .before .before .before .before .before .before .before .before .pre .1 .0) (c .before .before .before .before .before .before .before .before .direction-of .ensures) (c .before .before .before .before .before .before .execution-of .ensures) (sym (c .before .before .in-count-range .ensures) ∙ not-false _ (c .before .if1 .left)) (not-false _ (c .if2 .left))
 
 pub walk-spec : {M : Type 1} → statement M
 walk-spec =

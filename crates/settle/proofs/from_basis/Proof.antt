@@ -1,4 +1,4 @@
-use Rattle.settle.proofs.Bases.{by-pairing, by-pauschal, by-solar, by-plant-factor, by-plan, wind-pauschal, other-pauschal, held-well, based-off-curve, pauschal-off-curve, solar-off-curve}
+use Rattle.settle.proofs.Bases.{by-pairing, by-pauschal, by-solar, by-plant-factor, by-plan, wind-pauschal, other-pauschal, held-well, up-to-natural, based-off-curve, pauschal-off-curve, solar-off-curve}
 use Rattle.basis.specs.Based.{solarOf}
 use Rattle.rules.specs.Settle.{pauschalBasis}
 use Rattle.rules.specs.Terms.{technologyOf, variantOf, nominalPower, plantAllowed}
@@ -8,6 +8,7 @@ use Rattle.rules.proofs.Chains.{record-part}
 use Rattle.rules.proofs.Bytes.{record-length}
 use Rattle.place.specs.Places.{meant}
 use Prim.Native.Nat.{ℕ}
+use lib.IntN.{pos}
 use lib.ListN.{length}
 use mathlib.Core.List.{List}
 use mathlib.Core.Path.{sym, _∙_, ap}
@@ -26,159 +27,120 @@ use Rattle.settle.proofs.from_before.Reads as from-before-reads
 use Rattle.settle.proofs.off_curve.Reads as off-curve-reads
 use Rattle.settle.proofs.wind_spitz.Reads as wind-spitz-reads
 
--- src/lib.rt:157:26
 mul-plant : tie.Need-mul-plant
 mul-plant c = search needs
 
--- src/lib.rt:157:34
 mul-plant-2 : tie.Need-mul-plant-2
 mul-plant-2 c = search needs
 
--- src/lib.rt:157:34
 add-plant : tie.Need-add-plant
 add-plant c = search needs
 
--- src/lib.rt:157:17
 sub-plant : tie.Need-sub-plant
 sub-plant c = search needs
 
--- src/lib.rt:157:17
 part-plant-start : tie.Need-part-plant-start
 part-plant-start c = search needs
 
--- src/lib.rt:157:17
 part-plant-end : tie.Need-part-plant-end
 part-plant-end c = search needs
 
--- src/lib.rt:158:9
 technology-of-requires : tie.Need-technology-of-requires
 technology-of-requires c κs = search needs
 
--- src/lib.rt:159:9
 variant-of-requires : tie.Need-variant-of-requires
 variant-of-requires c κs = search needs
 
--- src/lib.rt:161:29
 enum-told : tie.Need-enum-told
 enum-told c = search needs
 
--- src/lib.rt:162:58
 enum-told-2 : tie.Need-enum-told-2
 enum-told-2 c = search needs
 
--- src/lib.rt:162:31
 wind-spitz-requires : tie.Need-wind-spitz-requires
 wind-spitz-requires c κs = search needs
 
--- src/lib.rt:166:17
 enum-told-3 : tie.Need-enum-told-3
 enum-told-3 c = search needs
 
--- src/lib.rt:166:17
 pauschal-requires : tie.Need-pauschal-requires
 pauschal-requires c κs = search needs
 
--- src/lib.rt:163:34
 from-before-requires : tie.Need-from-before-requires
 from-before-requires c κs = let a = c .before .before .before .before .before .before .before .before .before .before .before in let pl = meant (a .args .archive .now) (a .args .place) in (a .pre .0, (based-off-curve (pauschalBasis (a .args .archive .now) pl) (pauschal-off-curve (a .args .archive .now) pl (a .pre .1 .0)) _ (c .before .pauschal .ensures), a .pre .1 .1))
 
--- src/lib.rt:170:30
 enum-told-4 : tie.Need-enum-told-4
 enum-told-4 c = search needs
 
--- src/lib.rt:171:59
 enum-told-5 : tie.Need-enum-told-5
 enum-told-5 c = search needs
 
--- src/lib.rt:171:59
 solar-requires : tie.Need-solar-requires
 solar-requires c κs = search needs
 
--- src/lib.rt:171:31
 from-before-requires-2 : tie.Need-from-before-requires-2
 from-before-requires-2 c κs = let a = c .before .before .before .before .before .before .before .before .before .before .before in let pl = meant (a .args .archive .now) (a .args .place) in (a .pre .0, (based-off-curve (solarOf (a .args .archive .now) pl) (solar-off-curve (a .args .archive .now) pl (a .pre .1 .0)) _ (c .before .solar .ensures), a .pre .1 .1))
 
--- src/lib.rt:173:21
 enum-told-6 : tie.Need-enum-told-6
 enum-told-6 c = search needs
 
--- src/lib.rt:173:21
 nominal-power-requires : tie.Need-nominal-power-requires
 nominal-power-requires c κs = let a = c .before .before .before .before .before .before .before .before .before in (ap (λ (l : List ℕ). length l) (record-part (a .args .archive .now) (a .args .place .plant)) ∙ record-length (a .args .archive .now) (a .args .place .plant) (omega (arith, a .pre .0 .room, a .pre .0 .plant-used)), ap plantAllowed (record-part (a .args .archive .now) (a .args .place .plant)) ∙ a .pre .1 .0)
 
--- src/lib.rt:174:17
 off-curve-requires : tie.Need-off-curve-requires
-off-curve-requires c κs = search needs
+off-curve-requires c κs = let a = c .before .before .before .before .before .before .before .before .before .before .before in let q = c .before .nominal-power in (a .pre .0, ((up-to-natural (q .ensures .0) (q .ensures .1), λ curve table points. tt), (a .pre .1 .1, omega arith)))
 
--- src/lib.rt:177:30
 enum-told-7 : tie.Need-enum-told-7
 enum-told-7 c = search needs
 
--- src/lib.rt:178:57
 enum-told-8 : tie.Need-enum-told-8
 enum-told-8 c = search needs
 
--- src/lib.rt:178:31
 off-curve-requires-2 : tie.Need-off-curve-requires-2
 off-curve-requires-2 c κs = search needs
 
--- src/lib.rt:182:17
 enum-told-9 : tie.Need-enum-told-9
 enum-told-9 c = search needs
 
--- src/lib.rt:182:17
 pauschal-requires-2 : tie.Need-pauschal-requires-2
 pauschal-requires-2 c κs = search needs
 
--- src/lib.rt:179:34
 from-before-requires-3 : tie.Need-from-before-requires-3
 from-before-requires-3 c κs = let a = c .before .before .before .before .before .before .before .before .before .before .before in let pl = meant (a .args .archive .now) (a .args .place) in (a .pre .0, (based-off-curve (pauschalBasis (a .args .archive .now) pl) (pauschal-off-curve (a .args .archive .now) pl (a .pre .1 .0)) _ (c .before .pauschal2 .ensures), a .pre .1 .1))
 
--- src/lib.rt:150:1
 same-length : tie.Need-same-length
 same-length c = search needs
 
--- src/lib.rt:150:1
 returns : tie.Need-returns
 returns c = let a = c .before .before .before .before .before .before .before .before .before .before .before .before .before in let pl = meant (a .args .archive .now) (a .args .place) in by-pairing (a .args .archive .now) pl _ _ wind spitz (sym (c .before .before .before .before .before .before .before .before .before .technology-of .ensures ∙ ap technologyOf (record-part (a .args .archive .now) (a .args .place .plant))) ∙ c .before .before .before .before .before .before .enum-told .given .1) (sym (c .before .before .before .before .before .before .before .before .variant-of .ensures ∙ ap variantOf (record-part (a .args .archive .now) (a .args .place .plant))) ∙ c .before .before .before .before .enum-told2 .given .1) (c .before .before .wind-spitz .ensures)
 
--- src/lib.rt:150:1
 same-length-2 : tie.Need-same-length-2
 same-length-2 c = search needs
 
--- src/lib.rt:150:1
 returns-2 : tie.Need-returns-2
 returns-2 c = let a = c .before .before .before .before .before .before .before .before .before .before .before .before .before .before in let pl = meant (a .args .archive .now) (a .args .place) in by-pauschal (a .args .archive .now) pl _ _ wind (wind-pauschal (a .args .archive .now) pl) (sym (c .before .before .before .before .before .before .before .before .before .before .technology-of .ensures ∙ ap technologyOf (record-part (a .args .archive .now) (a .args .place .plant))) ∙ c .before .before .before .before .before .before .before .enum-told .given .1) (sym (c .before .before .before .before .before .before .before .before .before .variant-of .ensures ∙ ap variantOf (record-part (a .args .archive .now) (a .args .place .plant))) ∙ c .before .before .before .before .before .enum-told3 .given .1) (c .before .before .from-before .ensures (pauschalBasis (a .args .archive .now) pl) (c .before .before .before .before .pauschal .ensures) (held-well _ (pauschal-off-curve (a .args .archive .now) pl (a .pre .1 .0))))
 
--- src/lib.rt:150:1
 same-length-3 : tie.Need-same-length-3
 same-length-3 c = search needs
 
--- src/lib.rt:150:1
 returns-3 : tie.Need-returns-3
 returns-3 c = let a = c .before .before .before .before .before .before .before .before .before .before .before .before .before .before in let pl = meant (a .args .archive .now) (a .args .place) in by-solar (a .args .archive .now) pl _ _ (sym (c .before .before .before .before .before .before .before .before .before .before .technology-of .ensures ∙ ap technologyOf (record-part (a .args .archive .now) (a .args .place .plant))) ∙ c .before .before .before .before .before .before .before .enum-told4 .given .1) (sym (c .before .before .before .before .before .before .before .before .before .variant-of .ensures ∙ ap variantOf (record-part (a .args .archive .now) (a .args .place .plant))) ∙ c .before .before .before .before .before .enum-told5 .given .1) (c .before .before .from-before2 .ensures (solarOf (a .args .archive .now) pl) (c .before .before .before .before .solar .ensures) (held-well _ (solar-off-curve (a .args .archive .now) pl (a .pre .1 .0))))
 
--- src/lib.rt:150:1
 same-length-4 : tie.Need-same-length-4
 same-length-4 c = search needs
 
--- src/lib.rt:150:1
 returns-4 : tie.Need-returns-4
-returns-4 c = let a = c .before .before .before .before .before .before .before .before .before .before .before .before .before .before in let pl = meant (a .args .archive .now) (a .args .place) in by-plant-factor (a .args .archive .now) pl _ _ (sym (c .before .before .before .before .before .before .before .before .before .before .technology-of .ensures ∙ ap technologyOf (record-part (a .args .archive .now) (a .args .place .plant))) ∙ c .before .before .before .before .before .before .before .enum-told4 .given .1) (sym (c .before .before .before .before .before .before .before .before .before .variant-of .ensures ∙ ap variantOf (record-part (a .args .archive .now) (a .args .place .plant))) ∙ c .before .before .before .before .before .enum-told6 .given .1) _ (c .before .before .before .before .nominal-power .ensures .0 ∙ ap nominalPower (record-part (a .args .archive .now) (a .args .place .plant))) (c .before .before .off-curve .ensures)
+returns-4 c = let a = c .before .before .before .before .before .before .before .before .before .before .before .before .before .before in let pl = meant (a .args .archive .now) (a .args .place) in by-plant-factor (a .args .archive .now) pl _ _ (sym (c .before .before .before .before .before .before .before .before .before .before .technology-of .ensures ∙ ap technologyOf (record-part (a .args .archive .now) (a .args .place .plant))) ∙ c .before .before .before .before .before .before .before .enum-told4 .given .1) (sym (c .before .before .before .before .before .before .before .before .before .variant-of .ensures ∙ ap variantOf (record-part (a .args .archive .now) (a .args .place .plant))) ∙ c .before .before .before .before .before .enum-told6 .given .1) _ (c .before .before .before .before .nominal-power .ensures .0 ∙ ap (λ (r : List ℕ). pos (nominalPower r)) (record-part (a .args .archive .now) (a .args .place .plant))) (c .before .before .off-curve .ensures)
 
--- src/lib.rt:150:1
 same-length-5 : tie.Need-same-length-5
 same-length-5 c = search needs
 
--- src/lib.rt:150:1
 returns-5 : tie.Need-returns-5
 returns-5 c = let a = c .before .before .before .before .before .before .before .before .before .before .before .before .before in let pl = meant (a .args .archive .now) (a .args .place) in by-plan (a .args .archive .now) pl _ _ (sym (c .before .before .before .before .before .before .before .before .before .technology-of .ensures ∙ ap technologyOf (record-part (a .args .archive .now) (a .args .place .plant))) ∙ c .before .before .before .before .before .before .enum-told7 .given .1) (sym (c .before .before .before .before .before .before .before .before .variant-of .ensures ∙ ap variantOf (record-part (a .args .archive .now) (a .args .place .plant))) ∙ c .before .before .before .before .enum-told8 .given .1) (c .before .before .off-curve2 .ensures)
 
--- src/lib.rt:150:1
 same-length-6 : tie.Need-same-length-6
 same-length-6 c = search needs
 
--- src/lib.rt:150:1
 returns-6 : tie.Need-returns-6
 returns-6 c = let a = c .before .before .before .before .before .before .before .before .before .before .before .before .before .before in let pl = meant (a .args .archive .now) (a .args .place) in by-pauschal (a .args .archive .now) pl _ _ other (other-pauschal (a .args .archive .now) pl) (sym (c .before .before .before .before .before .before .before .before .before .before .technology-of .ensures ∙ ap technologyOf (record-part (a .args .archive .now) (a .args .place .plant))) ∙ c .before .before .before .before .before .before .before .enum-told7 .given .1) (sym (c .before .before .before .before .before .before .before .before .before .variant-of .ensures ∙ ap variantOf (record-part (a .args .archive .now) (a .args .place .plant))) ∙ c .before .before .before .before .before .enum-told9 .given .1) (c .before .before .from-before3 .ensures (pauschalBasis (a .args .archive .now) pl) (c .before .before .before .before .pauschal2 .ensures) (held-well _ (pauschal-off-curve (a .args .archive .now) pl (a .pre .1 .0))))
 

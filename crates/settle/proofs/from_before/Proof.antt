@@ -10,27 +10,21 @@ use Rattle.settle.proofs.from_before.Reads as reads
 use Rattle.settle.proofs.from_before.Lts as lts
 use Rattle.settle.proofs.off_curve.Reads as off-curve-reads
 
--- src/lib.rt:144:24
 enum-known-based : tie.Need-enum-known-based
 enum-known-based c = search needs
 
--- src/lib.rt:145:19
 enum-known-based-2 : tie.Need-enum-known-based-2
 enum-known-based-2 c = search needs
 
--- src/lib.rt:145:40
 off-curve-requires : tie.Need-off-curve-requires
-off-curve-requires c κs = let p = c .before .before .before .before .before .before .pre in let w = subst BasedOffCurve (c .before .before .based2 .given .1) (p .1 .0) in (p .0, (w .0, (p .1 .1 .0, p .1 .1 .1, w .1)))
+off-curve-requires c κs = let p = c .before .before .before .before .before .before .pre in let w = subst BasedOffCurve (c .before .before .based2 .given .1) (p .1 .0) in (p .0, (w .0, (p .1 .1, w .1)))
 
--- src/lib.rt:137:1
 returns : tie.Need-returns
 returns c = let a = c .before .before .before .before .before .args in λ o e h. not-based (a .archive .now) (meant (a .archive .now) (a .place)) o _ _ (based-none o (a .based) e _ (c .before .based .given .1))
 
--- src/lib.rt:137:1
 same-length : tie.Need-same-length
 same-length c = search needs
 
--- src/lib.rt:137:1
 returns-2 : tie.Need-returns-2
 returns-2 c = let a = c .before .before .before .before .before .before .before .before .before .args in λ o e h. from-held (a .archive .now) (meant (a .archive .now) (a .place)) o _ (a .based) _ e h _ _ (c .before .before .before .before .before .based2 .given .1) (c .before .before .off-curve .ensures)
 

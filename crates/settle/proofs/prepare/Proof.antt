@@ -10,31 +10,24 @@ use Rattle.settle.proofs.prepare.Lts as lts
 use Rattle.place.proofs.find.Reads as find-reads
 use Rattle.settle.proofs.from_basis.Reads as from-basis-reads
 
--- src/lib.rt:194:11
 find-requires : tie.Need-find-requires
 find-requires c κs = search needs
 
--- src/lib.rt:195:25
 enum-known-n : tie.Need-enum-known-n
 enum-known-n c = search needs
 
--- src/lib.rt:196:20
 enum-known-place : tie.Need-enum-known-place
 enum-known-place c = search needs
 
--- src/lib.rt:196:30
 from-basis-requires : tie.Need-from-basis-requires
-from-basis-requires c κs = let a = c .before .before .before .before .before .before .before in let l = located (a .args .archive .now) (a .args .p) (a .args .k) (c .before .before .before .before .find .result) _ (c .before .before .before .before .find .ensures) (c .before .before .place .given .1) in (l .lies, (l .plant-allowed, (a .pre, omega (arith, l .links-few, l .lies .few, l .lies .measure-used))))
+from-basis-requires c κs = let a = c .before .before .before .before .before .before .before in let l = located (a .args .archive .now) (a .args .p) (a .args .k) (c .before .before .before .before .find .result) _ (c .before .before .before .before .find .ensures) (c .before .before .place .given .1) in (l .lies, (l .plant-allowed, omega (arith, l .links-few, l .lies .few, l .lies .measure-used)))
 
--- src/lib.rt:190:1
 returns : tie.Need-returns
 returns c = let a = c .before .before .before .before .before .before .args in no-place (a .archive .now) (a .p) (a .k) _ _ (placed-refused _ (c .before .before .before .find .result) (c .before .before .before .find .ensures) _ (c .before .n .given .1))
 
--- src/lib.rt:190:1
 same-length : tie.Need-same-length
 same-length c = search needs
 
--- src/lib.rt:190:1
 returns-2 : tie.Need-returns-2
 returns-2 c = let a = c .before .before .before .before .before .before .before .before .before .before .args in let l = located (a .archive .now) (a .p) (a .k) (c .before .before .before .before .before .before .before .find .result) _ (c .before .before .before .before .before .before .before .find .ensures) (c .before .before .before .before .before .place .given .1) in at-place (a .archive .now) (a .p) (a .k) _ _ _ (l .is) (c .before .before .from-basis .ensures)
 

@@ -1,8 +1,8 @@
-use Rattle.settle.proofs.Laws.{ready, sheet-length, list-long, settles-unready, settles-short, settles-given}
+use Prim.Native.Nat.{_≤_, min}
+use lib.ListN.{length}
+use Rattle.settle.proofs.Laws.{ready, in-sheet, sheet-length, list-long, settles-unready, settles-short, settles-given}
 use native.Mathlib.Omega.{arith}
-use mathlib.Core.Path.{refl, sym, _∙_}
-use mir.ValLaws.{toZ-ofZ}
-use mir.Syntax.{w64}
+use mathlib.Core.Path.{refl, sym}
 use borrow.Author.Needs.{needs}
 use Rattle.settle.proofs.settle_on.Statement.{statement}
 use Rattle.settle.proofs.settle_on.Tie as tie
@@ -12,61 +12,67 @@ use Rattle.energy.proofs.carry.book_all.Reads as book-all-reads
 use Rattle.settle.proofs.number.Reads as number-reads
 use Rattle.settle.proofs.prepare.Reads as prepare-reads
 
--- src/lib.rt:52:9
 prepare-requires : tie.Need-prepare-requires
 prepare-requires c κs = search needs
 
--- src/lib.rt:53:25
 enum-known-prepared : tie.Need-enum-known-prepared
 enum-known-prepared c = search needs
 
--- src/lib.rt:54:33
 enum-told : tie.Need-enum-told
 enum-told c = search needs
 
--- src/lib.rt:54:33
 number-requires : tie.Need-number-requires
 number-requires c κs = search needs
 
--- src/lib.rt:54:9
 same-length : tie.Need-same-length
 same-length c = search needs
 
--- src/lib.rt:54:9
 returns : tie.Need-returns
 returns c = let a = c .before .before .before .before .before .before .before .before .before .args in settles-unready (a .archive .now) (a .p) (a .k) _ (c .before .before .before .before .before .prepare .result) (c .before .before .before .before .before .prepare .ensures) (a .list .now) _ _ (c .before .enum-told .given .1) (c .number .ensures)
 
--- src/lib.rt:58:9
 same-length-2 : tie.Need-same-length-2
 same-length-2 c = search needs
 
--- src/lib.rt:58:9
 returns-2 : tie.Need-returns-2
 returns-2 c = let a = c .before .before .before .before .before .before .before .before .before .before .args in settles-short (a .archive .now) (a .p) (a .k) (a .list .now) _ _ (ready (a .archive .now) (a .p) (a .k) _ (c .before .before .before .before .before .before .prepare .result) (c .before .before .before .before .before .before .prepare .ensures) _ (c .before .before .prepared .given .1)) (c .if1 .taken)
 
--- src/lib.rt:61:73
 slice-reshare-prefix-book-all : tie.Need-slice-reshare-prefix-book-all
-slice-reshare-prefix-book-all c = let a = c .before .before .before .before .before .before .before .before .before .before .args in let s = ready (a .archive .now) (a .p) (a .k) _ (c .before .before .before .before .before .before .prepare .result) (c .before .before .before .before .before .before .prepare .ensures) _ (c .before .before .prepared .given .1) in omega (arith, s .few, s .size)
+slice-reshare-prefix-book-all c =
+    let a = c .before .before .before .before .before .before .before .before .before .before .args in
+    let x = c .before .before .before .before .before .before .prepare in
+    let s = ready (a .archive .now) (a .p) (a .k) _ (x .result) (x .ensures) _ (c .before .before .prepared .given .1) in
+    let room : min (length (a .list .now)) 2976 ≤ length (x .last .1 .1 .1 .0) = omega (arith, c .before .before .before .before .before .before .before .before .before .before .pre, x .kept .1 .1 .1 .0) in
+    in-sheet (a .archive .now) (a .p) (a .k) (a .list .now) _ _ s room (c .if1 .left)
 
--- src/lib.rt:61:73
 slice-aggregate-book-all : tie.Need-slice-aggregate-book-all
-slice-aggregate-book-all c = let a = c .before .before .before .before .before .before .before .before .before .before .before .args in let s = ready (a .archive .now) (a .p) (a .k) _ (c .before .before .before .before .before .before .before .prepare .result) (c .before .before .before .before .before .before .before .prepare .ensures) _ (c .before .before .before .prepared .given .1) in sym (sheet-length (a .archive .now) (a .p) (a .k) (a .list .now) _ _ s)
+slice-aggregate-book-all c =
+    let a = c .before .before .before .before .before .before .before .before .before .before .before .args in
+    let x = c .before .before .before .before .before .before .before .prepare in
+    let s = ready (a .archive .now) (a .p) (a .k) _ (x .result) (x .ensures) _ (c .before .before .before .prepared .given .1) in
+    let room : min (length (a .list .now)) 2976 ≤ length (x .last .1 .1 .1 .0) = omega (arith, c .before .before .before .before .before .before .before .before .before .before .before .pre, x .kept .1 .1 .1 .0) in
+    sym (sheet-length (a .archive .now) (a .p) (a .k) (a .list .now) _ _ s room (c .before .if1 .left))
 
--- src/lib.rt:61:9
 book-all-requires : tie.Need-book-all-requires
-book-all-requires c κs = let a = c .before .before .before .before .before .before .before .before .before .before .before .before .args in let s = ready (a .archive .now) (a .p) (a .k) _ (c .before .before .before .before .before .before .before .before .prepare .result) (c .before .before .before .before .before .before .before .before .prepare .ensures) _ (c .before .before .before .before .prepared .given .1) in (s .positive, s .low, s .fits, list-long (a .archive .now) (a .p) (a .k) (a .list .now) _ _ s (c .before .before .if1 .left))
+book-all-requires c κs =
+    let a = c .before .before .before .before .before .before .before .before .before .before .before .before .args in
+    let x = c .before .before .before .before .before .before .before .before .prepare in
+    let s = ready (a .archive .now) (a .p) (a .k) _ (x .result) (x .ensures) _ (c .before .before .before .before .prepared .given .1) in
+    let room : min (length (a .list .now)) 2976 ≤ length (x .last .1 .1 .1 .0) = omega (arith, c .before .before .before .before .before .before .before .before .before .before .before .before .pre, x .kept .1 .1 .1 .0) in
+    (s .positive, s .low, s .fits (in-sheet (a .archive .now) (a .p) (a .k) (a .list .now) _ _ s room (c .before .before .if1 .left)), list-long (a .archive .now) (a .p) (a .k) (a .list .now) _ _ s room (c .before .before .if1 .left))
 
--- src/lib.rt:48:1
 same-length-3 : tie.Need-same-length-3
 same-length-3 c = search needs
 
--- src/lib.rt:48:1
 same-length-4 : tie.Need-same-length-4
 same-length-4 c = search needs
 
--- src/lib.rt:48:1
 returns-3 : tie.Need-returns-3
-returns-3 c = let a = c .before .before .before .before .before .before .before .before .before .before .before .before .before .before .args in let s = ready (a .archive .now) (a .p) (a .k) _ (c .before .before .before .before .before .before .before .before .before .before .prepare .result) (c .before .before .before .before .before .before .before .before .before .before .prepare .ensures) _ (c .before .before .before .before .before .before .prepared .given .1) in settles-given (a .archive .now) (a .p) (a .k) (a .list .now) _ _ s _ _ _ _ (c .before .before .before .before .if1 .left) (c .before .book-all .ensures .0) refl (toZ-ofZ w64 _ (record { sfits = c .before .book-all .ok }) ∙ c .before .book-all .ensures .1) refl
+returns-3 c =
+    let a = c .before .before .before .before .before .before .before .before .before .before .before .before .before .before .args in
+    let x = c .before .before .before .before .before .before .before .before .before .before .prepare in
+    let s = ready (a .archive .now) (a .p) (a .k) _ (x .result) (x .ensures) _ (c .before .before .before .before .before .before .prepared .given .1) in
+    let room : min (length (a .list .now)) 2976 ≤ length (x .last .1 .1 .1 .0) = omega (arith, c .before .before .before .before .before .before .before .before .before .before .before .before .before .before .pre, x .kept .1 .1 .1 .0) in
+    settles-given (a .archive .now) (a .p) (a .k) (a .list .now) _ _ s room (c .before .before .before .before .if1 .left) _ _ _ _ (c .before .book-all .ensures .0) refl (c .before .book-all .ensures .1) refl
 
 pub settle-on-spec : {M : Type 1} → statement M
 settle-on-spec =

@@ -1,18 +1,22 @@
 -- `units::lowered` meets its contract. Assumes nothing.
-use native.Mathlib.Omega.{arith}
 use borrow.Author.Needs.{needs}
+use mir.Syntax.{w64}
+use mir.Facts.{toZ-pos}
 use Rattle.units.proofs.Laws.{minus-fits, minus-is}
 use Rattle.units.proofs.lowered.Statement.{statement}
 use Rattle.units.proofs.lowered.Tie as tie
 
-cast-t2 : tie.Need-cast-t2
-cast-t2 c = search needs
+cast-t3 : tie.Need-cast-t3
+cast-t3 c = search needs
 
-sub-t3 : tie.Need-sub-t3
-sub-t3 c = minus-fits (c .args .n) _ (omega arith) (omega arith)
+cast-t4 : tie.Need-cast-t4
+cast-t4 c = search needs
+
+sub-t5 : tie.Need-sub-t5
+sub-t5 c = rw (toZ-pos w64 (c .pre .1)) (minus-fits (c .args .n) (c .args .by) (c .pre .0) (c .pre .1))
 
 returns : tie.Need-returns
-returns c = minus-is (c .args .n) 999999999 (omega arith) (omega arith)
+returns c = rw (toZ-pos w64 (c .pre .1)) (minus-is (c .args .n) (c .args .by) (c .pre .0) (c .pre .1))
 
 pub lowered-spec : {M : Type 1} → statement M
-lowered-spec = tie.close (tie.spec cast-t2 sub-t3 returns)
+lowered-spec = tie.close (tie.spec cast-t3 cast-t4 sub-t5 returns)

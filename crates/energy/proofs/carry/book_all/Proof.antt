@@ -1,5 +1,5 @@
--- `energy::carry::book_all` meets its contract: a walk of its MIR, by hand, with its loop. Both slices are opened before the loop and closed after it. In each turn the local carry is lent to `book` and is back after it (`Steps`), and the amount gets its sign by `signed`.
--- The loop's variant is a state with its facts (`Upto`), ordered by what is left of the sheet. All that it knows of `book` and `signed` is that they meet their contracts.
+-- `energy::carry::book_all` meets its contract: a walk of its MIR, by hand, with its loop. Both slices are opened before the loop and closed after it. In each turn the local carry is lent to `book` and is back after it (`Steps`), and the amount gets its sign by `units::booked`.
+-- The loop's variant is a state with its facts (`Upto`), ordered by what is left of the sheet. All that it knows of `book` and `units::booked` is that they meet their contracts.
 -- Assumes nothing.
 use mathlib.Core.Path.{_≡_, refl, sym, ap, subst}
 use Prim.Native.Nat.{ℕ, _<_, _≤_, _^_, _*_, _+_, _-_, _/_}
@@ -48,7 +48,7 @@ use denote.Enum.Laws as EL
 use denote.Triple.Statement.{Triple}
 use denote.Triple.Entry.{onEntry}
 use denote.Triple.Spec.{Meets, tripleOf}
-use denote.Triple.Table.{entered, cited}
+use denote.Triple.Table.{entered}
 use denote.Triple.Walked.{says, needs, Stays, stay-slice, stay-none-slice, stay-none, walkOf, goes-none, goes-none-slice, goes-slice, Walks, ends-at, walked, walk-meets}
 use denote.Exit.{yes}
 use Rattle.rules.specs.declared.Direction.{Direction}
@@ -56,19 +56,17 @@ use Rattle.rules.specs.Numbers.{sum, sumℤ}
 use Rattle.rules.specs.Booking.{signed, amountsOf}
 use Rattle.rules.proofs.Direction as D
 use Rattle.rules.proofs.Direction.Laws as D′
+use Rattle.units.proofs.WattHour as Wh
+use Rattle.units.proofs.WattHour.Laws as Wh′
+use Rattle.units.proofs.booked.Symbol.{name as #sign}
 use Rattle.energy.specs.Carrying.{bookedOf}
 use Rattle.energy.specs.declared.carry.Carry.{Carry}
 use Rattle.energy.specs.declared.carry.Booked.{Booked}
 use Rattle.energy.proofs.Written.{Running, Written, running-none, written-none, running-next, written-next, total-fits, total-below, written-all, total-all}
-use Rattle.energy.proofs.Steps.{by-test, Book, Sign, carried, directed, books, signs}
+use Rattle.energy.proofs.Steps.{by-test, Book, Sign, book-cited, sign-cited, energy, energy-is, carried, directed, books, signs}
 use Rattle.energy.proofs.carry.Carry as T
 use Rattle.energy.proofs.carry.Carry.Laws as T′
-use Rattle.energy.proofs.carry.book.Symbol as book-def
 use Rattle.energy.proofs.carry.book.Symbol.{name as #book}
-use Rattle.energy.proofs.carry.book.Met as book-thm
-use Rattle.energy.proofs.carry.signed.Symbol as signed-def
-use Rattle.energy.proofs.carry.signed.Symbol.{name as #signed}
-use Rattle.energy.proofs.carry.signed.Met as signed-thm
 use Rattle.energy.proofs.carry.book_all.Key.{name as #book-all}
 use Rattle.energy.proofs.carry.book_all as f
 use Rattle.energy.proofs.carry.book_all.Statement as stated
@@ -116,15 +114,15 @@ module _ {M : Type 1} (𝓤 : URA M) (H : Heap 𝓤) (A : Atoms 𝓤) (W : Given
   Post = walkOf 𝓤 H A f.ended stayed (f.clauses 𝓤 H A at-mem run) .post (((κ, (κ′, tt)), (q, (q′, tt)), tt, a, vals), tt)
 
   exits : (zs : List ℤ) (z : ℤ) → mag z < 2 ^ 63 → length zs ≡ length ys₀ → zs ≡ amountsOf s d ms ++ drop (length ms) ys₀ → z ≡ sumℤ (amountsOf s d ms)
-      → ent 𝓤 (⋆ 𝓤 H A (‵ (flft κ q) ∷ ‵ (flft κ′ q′) ∷ ‵ (fobs γ (codedHoleys i64 .code (heres i64 zs))) ∷ ‵ (fbor κ′ (Held i64 (length zs) b o γ)) ∷ ‵ (ShrSlice (named 0) κ u64 .own xm (from-sheet ∷ [])) ∷ [])) (Post (vint w64 (ofZ w64 z)))
+      → ent 𝓤 (⋆ 𝓤 H A (‵ (flft κ q) ∷ ‵ (flft κ′ q′) ∷ ‵ (fobs γ (codedHoleys i64 .code (heres i64 zs))) ∷ ‵ (fbor κ′ (Held i64 (length zs) b o γ)) ∷ ‵ (ShrSlice (named 0) κ u64 .own xm (from-sheet ∷ [])) ∷ [])) (Post (Wh′.lowered (energy z)))
   exits zs z fits l is total =
       qed W (‵ (flft κ q) ∷ ‵ (flft κ′ q′) ∷ ‵ (fobs γ (codedHoleys i64 .code (heres i64 zs))) ∷ ‵ (fbor κ′ (Held i64 (length zs) b o γ)) ∷ ‵ (ShrSlice (named 0) κ u64 .own xm (from-sheet ∷ [])) ∷ []) ∵
-      suffices ! _ (ends-at 𝓤 H A f.ended stayed (f.clauses 𝓤 H A at-mem run) W (((κ, (κ′, tt)), (q, (q′, tt)), tt, a, vals), tt) (vint w64 (ofZ w64 z)) z (tt, (tt, (tt, (zs, tt)))) (tt, (tt, (tt, (l, tt))))) $ says ! (is, total) $
+      suffices ! _ (ends-at 𝓤 H A f.ended stayed (f.clauses 𝓤 H A at-mem run) W (((κ, (κ′, tt)), (q, (q′, tt)), tt, a, vals), tt) (Wh′.lowered (energy z)) (energy z) (tt, (tt, (tt, (zs, tt)))) (tt, (tt, (tt, (l, tt))))) $ says ! (is, total) $
       nothing ! $ move ! (2 ∷ 0 ∷ []) $ join ! $ move ! (1 ∷ 0 ∷ []) $ join ! $ frame ! $
       fjoin ! $ pureI ! (at-slice i64 (x zs) (place ∷ [])) (tt, (tt, tt)) (ap (λ (m : ℕ). sliceVal (b, o) m ∷ []) (sym l), subst (Room i64) (sym l) room) $ fjoin ! $
       nothing ! $ move ! (1 ∷ 0 ∷ []) $ fjoin ! $ move ! (1 ∷ 0 ∷ []) $ fjoin ! $ owned ! u64 (Is u64) (uint-makes 𝓤 H A W w64) d _ (refl, d-fits) $ fjoin ! $
       owned ! D.the-row (Is D.the-row) (EL.makes D.the-type D′.the-plain 𝓤 H A) s _ s-is $ fjoin ! $
-      owned ! i64 (Is i64) (sint-makes 𝓤 H A W w64) z _ (refl, fits) $ move ! (1 ∷ 0 ∷ []) $ done !
+      owned ! Wh.the-row (Is Wh.the-row) (LL.makes Wh.the-type Wh′.the-plain 𝓤 H A) (energy z) _ (energy-is z fits) $ move ! (1 ∷ 0 ∷ []) $ done !
 
   -- ---- the loop's state, and its order
   record Upto : Type 0 where
@@ -195,7 +193,7 @@ module _ {M : Type 1} (𝓤 : URA M) (H : Heap 𝓤) (A : Atoms 𝓤) (W : Given
     nearer : length ms - (t .i + 1) < length ms - t .i
     nearer = omega arith
 
-  module _ (𝓣 : Tables 𝓤 H) (fm : FmC 𝓤 H (W .laws) (𝓣 .C)) (book-known : Triple 𝓤 (𝓣 .C #book) (Book 𝓤 H A at-mem run)) (signed-known : Triple 𝓤 (𝓣 .C #signed) (Sign 𝓤 H A at-mem run)) (q₁ : Share) (l₀ l₁ l₂ l₃ l₄ l₅ l₆ l₇ l₈ l₉ l₁₀ l₁₁ l₁₂ l₁₃ l₁₄ l₁₅ : ℕ) where
+  module _ (𝓣 : Tables 𝓤 H) (fm : FmC 𝓤 H (W .laws) (𝓣 .C)) (book-known : Triple 𝓤 (𝓣 .C #book) (Book 𝓤 H A at-mem run)) (sign-known : Triple 𝓤 (𝓣 .C #sign) (Sign 𝓤 H A at-mem run)) (q₁ : Share) (l₀ l₁ l₂ l₃ l₄ l₅ l₆ l₇ l₈ l₉ l₁₀ l₁₁ l₁₂ l₁₃ l₁₄ l₁₅ : ℕ) where
     abbrev C : Calls 𝓤 H
     C = 𝓣 .C
 
@@ -203,15 +201,15 @@ module _ {M : Type 1} (𝓤 : URA M) (H : Heap 𝓤) (A : Atoms 𝓤) (W : Given
     Λ = 𝓣 .Λ
 
     abbrev En : Env 𝓤 H
-    En = (word, l₀) ∷ (D′.mir, l₁) ∷ (word, l₂) ∷ (shared, l₃) ∷ (slice, l₄) ∷ (T′.mir, l₅) ∷ (word, l₆) ∷ (word, l₇) ∷ (word, l₈) ∷ (word, l₉) ∷ (tyBool, l₁₀) ∷ (lent-carry, l₁₁) ∷ (tyPtr, l₁₂) ∷ (word, l₁₃) ∷ (word, l₁₄) ∷ (tyPtr, l₁₅) ∷ []
+    En = (Wh′.mir, l₀) ∷ (D′.mir, l₁) ∷ (word, l₂) ∷ (shared, l₃) ∷ (slice, l₄) ∷ (T′.mir, l₅) ∷ (word, l₆) ∷ (word, l₇) ∷ (word, l₈) ∷ (word, l₉) ∷ (tyBool, l₁₀) ∷ (lent-carry, l₁₁) ∷ (tyPtr, l₁₂) ∷ (word, l₁₃) ∷ (Wh′.mir, l₁₄) ∷ (tyPtr, l₁₅) ∷ []
 
     -- [0 list's row; 1 its open borrow; 2 obs; 3 auth; 4 sheet's row; 5 its open borrow; 6 the fractured borrow; 7 what sheet owns;
     --  8 _15; 10 _14; 12 _13; 14 _12; 16 _11; 18 _10; 20 _9; 22 amount; 24 i; 26 total; 28 carry; 30 list; 32 sheet; 34 denominator; 36 direction; 38 _0]
     abbrev At : Upto → List (Item 𝓤)
     At t = ‵ (row i64 fullShare (t .ys) b o) ∷ ‵ (fobor κ′ q′ (Held i64 (length ys₀) b o γ)) ∷ ‵ (fobs γ (codedHoleys i64 .code (heres i64 ys₀))) ∷ ‵ (fauth γ (codedHoleys i64 .code (heres i64 ys₀)))
         ∷ ‵ (row u64 q₁ ms bm om) ∷ ‵ (fobor κ q (arr-parts (shares u64) (length ms) .part q₁ ms bm om)) ∷ ‵ (fshr-bor κ (λ z. arr-parts (shares u64) (length ms) .part z ms bm om)) ∷ ‵ (ShrSlice (named 0) κ u64 .own xm (from-sheet ∷ []))
-        ∷ ‵ (froom tyPtr l₁₅ 0) ∷ ‵ (fdies tyPtr l₁₅) ∷ ‵ (froom word l₁₄ 0) ∷ ‵ (fdies word l₁₄) ∷ ‵ (froom word l₁₃ 0) ∷ ‵ (fdies word l₁₃) ∷ ‵ (froom tyPtr l₁₂ 0) ∷ ‵ (fdies tyPtr l₁₂) ∷ ‵ (froom lent-carry l₁₁ 0) ∷ ‵ (fdies lent-carry l₁₁) ∷ ‵ (froom tyBool l₁₀ 0) ∷ ‵ (fdies tyBool l₁₀) ∷ ‵ (froom word l₉ 0) ∷ ‵ (fdies word l₉) ∷ ‵ (froom word l₈ 0) ∷ ‵ (fdies word l₈)
-        ∷ ‵ (fat fullShare word l₇ 0 (vint w64 (t .i))) ∷ ‵ (fdies word l₇) ∷ ‵ (fat fullShare word l₆ 0 (vint w64 (t .total))) ∷ ‵ (fdies word l₆) ∷ ‵ (fat fullShare T′.mir l₅ 0 (carried (h t))) ∷ ‵ (fdies T′.mir l₅) ∷ ‵ (fat fullShare slice l₄ 0 place) ∷ ‵ (fdies slice l₄) ∷ ‵ (fat fullShare shared l₃ 0 from-sheet) ∷ ‵ (fdies shared l₃) ∷ ‵ (fat fullShare word l₂ 0 (vint w64 d)) ∷ ‵ (fdies word l₂) ∷ ‵ (fat fullShare D′.mir l₁ 0 (directed s)) ∷ ‵ (fdies D′.mir l₁) ∷ ‵ (froom word l₀ 0) ∷ ‵ (fdies word l₀) ∷ []
+        ∷ ‵ (froom tyPtr l₁₅ 0) ∷ ‵ (fdies tyPtr l₁₅) ∷ ‵ (froom Wh′.mir l₁₄ 0) ∷ ‵ (fdies Wh′.mir l₁₄) ∷ ‵ (froom word l₁₃ 0) ∷ ‵ (fdies word l₁₃) ∷ ‵ (froom tyPtr l₁₂ 0) ∷ ‵ (fdies tyPtr l₁₂) ∷ ‵ (froom lent-carry l₁₁ 0) ∷ ‵ (fdies lent-carry l₁₁) ∷ ‵ (froom tyBool l₁₀ 0) ∷ ‵ (fdies tyBool l₁₀) ∷ ‵ (froom word l₉ 0) ∷ ‵ (fdies word l₉) ∷ ‵ (froom word l₈ 0) ∷ ‵ (fdies word l₈)
+        ∷ ‵ (fat fullShare word l₇ 0 (vint w64 (t .i))) ∷ ‵ (fdies word l₇) ∷ ‵ (fat fullShare word l₆ 0 (vint w64 (t .total))) ∷ ‵ (fdies word l₆) ∷ ‵ (fat fullShare T′.mir l₅ 0 (carried (h t))) ∷ ‵ (fdies T′.mir l₅) ∷ ‵ (fat fullShare slice l₄ 0 place) ∷ ‵ (fdies slice l₄) ∷ ‵ (fat fullShare shared l₃ 0 from-sheet) ∷ ‵ (fdies shared l₃) ∷ ‵ (fat fullShare word l₂ 0 (vint w64 d)) ∷ ‵ (fdies word l₂) ∷ ‵ (fat fullShare D′.mir l₁ 0 (directed s)) ∷ ‵ (fdies D′.mir l₁) ∷ ‵ (froom Wh′.mir l₀ 0) ∷ ‵ (fdies Wh′.mir l₀) ∷ []
 
     abbrev after : mir.Syntax.Body
     after = code.Mir.t-5
@@ -238,22 +236,22 @@ module _ {M : Type 1} (𝓤 : URA M) (H : Heap 𝓤) (A : Atoms 𝓤) (W : Given
         move ! (28 ∷ []) $ books W at-mem run ! fm book-known (h t) (m t) l₅ (was t) (t .so .small, ok .1) (g .1) (λ ν δ. and-then ! (load ! (from ! (stop !)) (look ! 18 refl)) (and-then ! (load ! (from ! (stop !)) (look ! 14 refl)) (no-more !))) (λ now fits.
         land ! (from ! (stop !)) (init ! 23 refl (tt, record { fits = fits })) $
         keep ! (1 ∷ 2 ∷ 3 ∷ 4 ∷ 5 ∷ 6 ∷ 7 ∷ 8 ∷ 9 ∷ 10 ∷ 11 ∷ 12 ∷ 13 ∷ 14 ∷ 15 ∷ 16 ∷ 17 ∷ 18 ∷ 19 ∷ 20 ∷ 21 ∷ 22 ∷ 23 ∷ 24 ∷ 25 ∷ 26 ∷ 27 ∷ 28 ∷ 0 ∷ 29 ∷ 30 ∷ 31 ∷ 32 ∷ 33 ∷ 34 ∷ 35 ∷ 36 ∷ 37 ∷ 38 ∷ 39 ∷ []) $
-        signs W at-mem run ! fm signed-known s (out t .amount) s-is (amount-ok t within) (and-then ! (load ! (from ! (stop !)) (look ! 37 refl)) (and-then ! (load ! (from ! (stop !)) (look ! 23 refl)) (no-more !))) (λ sized.
-        land ! (from ! (stop !)) (init ! 10 refl (sint-lawful 𝓤 H A W w64 .typed (amount t) _ (refl, sized) .0)) $
+        signs W at-mem run ! fm sign-known s (out t .amount) s-is (amount-ok t within) (and-then ! (load ! (from ! (stop !)) (look ! 37 refl)) (and-then ! (load ! (from ! (stop !)) (look ! 23 refl)) (no-more !))) (λ sized.
+        land ! (from ! (stop !)) (init ! 10 refl (LL.lawful Wh.the-type Wh′.the-laws 𝓤 H A W .typed (energy (amount t)) _ (energy-is (amount t) sized) .0)) $
         -- the amount is written
         assigns ! (bin ! (load ! (from ! (stop !)) (look ! 24 refl)) (lit ! tt) (record { fits = offset-fits t within })) (from ! (stop !)) (store ! 20 refl (tt, record { fits = offset-fits t within })) $
         assigns ! (bin ! (load ! (from ! (fld ! refl (stop !))) (look-in ! 30 (sub ! 0 refl (whole !)))) (load ! (from ! (stop !)) (look ! 20 refl)) tt) (from ! (stop !)) (init ! 8 refl (tt, tt)) $
         rewrite ! 8 (λ (k : ℕ). ‵ (fat fullShare tyPtr l₁₅ 0 (vptr b k))) (sym (place-is 8 o (t .i))) refl $
         elem-out ! i64 (Is i64) (shows 𝓤 H A i64) (sint-vals w64) (sint-tells w64) fullShare (t .ys) (t .i) (pos 0) b o (inside-ys t within) (λ _.
-        assigns ! (of-opd ! (load ! (from ! (stop !)) (look ! 12 refl))) (from ! (hop ! (look ! 10 refl) (stop !))) (store ! 0 refl (sint-lawful 𝓤 H A W w64 .typed (amount t) _ (refl, sized) .0)) $
+        assigns ! (of-opd ! (load ! (from ! (fld ! refl (stop !))) (look-in ! 12 (sub ! 0 refl (whole !))))) (from ! (hop ! (look ! 10 refl) (stop !))) (store ! 0 refl (sint-lawful 𝓤 H A W w64 .typed (amount t) _ (refl, sized) .0)) $
         move ! (1 ∷ []) $ let-go ! $ owned ! i64 (Is i64) (sint-makes 𝓤 H A W w64) (amount t) _ (refl, sized) $ move ! (1 ∷ 0 ∷ []) $ elem-put ! i64 fullShare (t .ys) (t .i) (amount t) (vint w64 (ofZ w64 (amount t)) ∷ []) b o (inside-ys t within) $
         assigns ! (bin ! (load ! (from ! (stop !)) (look ! 26 refl)) (load ! (from ! (stop !)) (look ! 22 refl)) (record { fits = sum-fits t within })) (from ! (stop !)) (store ! 26 refl (tt, record { fits = sum-fits t within })) $
         assigns-last ! (bin ! (load ! (from ! (stop !)) (look ! 24 refl)) (lit ! tt) (record { fits = one-more t within })) (from ! (stop !)) (store ! 24 refl (tt, record { fits = one-more t within })) $
         forget ! 8 refl $ forget ! 10 refl $ forget ! 12 refl $ forget ! 14 refl $ forget ! 16 refl $ forget ! 18 refl $ forget ! 20 refl $ forget ! 22 refl $
         again ! Nearer At t (next t within) (nearer t within))))))
         (λ over. let end : length ms ≤ t .i = ltb-false (t .i) (length ms) over in rewrite ! 18 (λ (z : Bool). ‵ (fat fullShare tyBool l₁₀ 0 (vbool z))) over refl $ leaves-loop ! (load ! (from ! (stop !)) (look ! 18 refl)) $ exec ! C Λ En after (atRet En Post) $
-        signs W at-mem run ! fm signed-known s (t .total) s-is (total-ok t) (and-then ! (load ! (from ! (stop !)) (look ! 37 refl)) (and-then ! (load ! (from ! (stop !)) (look ! 27 refl)) (no-more !))) (λ sized.
-        land ! (from ! (stop !)) (init ! 38 refl (sint-lawful 𝓤 H A W w64 .typed (signed s (t .total)) _ (refl, sized) .0)) $
+        signs W at-mem run ! fm sign-known s (t .total) s-is (total-ok t) (and-then ! (load ! (from ! (stop !)) (look ! 37 refl)) (and-then ! (load ! (from ! (stop !)) (look ! 27 refl)) (no-more !))) (λ sized.
+        land ! (from ! (stop !)) (init ! 38 refl (LL.lawful Wh.the-type Wh′.the-laws 𝓤 H A W .typed (energy (signed s (t .total))) _ (energy-is (signed s (t .total)) sized) .0)) $
         closes-slice ! tt i64 ys₀ (t .ys) (t .are .as-long) b o $ move ! (3 ∷ 4 ∷ []) $ shuts-slice ! tt u64 q₁ ms bm om $
         -- [sheet's token; obs; the borrow; list's token; the fractured borrow; what sheet owns; 6 _15; 8 _14; 10 _13; 12 _12; 14 _11; 16 _10; 18 _9; 20 amount; 22 i; 24 total; 26 carry; 28 list; 30 sheet; 32 denominator; 34 direction; 36 _0]
         returns ! (look ! 36 refl) $ forget ! 16 refl $ forget ! 18 refl $ forget ! 22 refl $ forget ! 24 refl $ forget ! 26 refl $ forget ! 28 refl $ forget ! 30 refl $ forget ! 32 refl $ forget ! 34 refl $ forget ! 36 refl $
@@ -264,9 +262,9 @@ module _ {M : Type 1} (𝓤 : URA M) (H : Heap 𝓤) (A : Atoms 𝓤) (W : Given
     looped : Sq W (At start) (runs C Λ En code.Mir.t-4 (atRet En Post))
     looped = first ! $ blocks ! $ loops ! 𝓣 Nearer Nearer-wf At turns start
 
-  walk : (𝓣 : Tables 𝓤 H) → FmC 𝓤 H (W .laws) (𝓣 .C) → Triple 𝓤 (𝓣 .C #book) (Book 𝓤 H A at-mem run) → Triple 𝓤 (𝓣 .C #signed) (Sign 𝓤 H A at-mem run)
+  walk : (𝓣 : Tables 𝓤 H) → FmC 𝓤 H (W .laws) (𝓣 .C) → Triple 𝓤 (𝓣 .C #book) (Book 𝓤 H A at-mem run) → Triple 𝓤 (𝓣 .C #sign) (Sign 𝓤 H A at-mem run)
       → ent 𝓤 (onEntry 𝓤 H A f.signature (κ, (κ′, tt)) (q, (q′, tt)) a vals) (WpFn 𝓤 H (𝓣 .C) (𝓣 .Λ) code.function (directed s ∷ vint w64 d ∷ from-sheet ∷ place ∷ []) Post)
-  walk 𝓣 fm book-known signed-known =
+  walk 𝓣 fm book-known sign-known =
       qed W ((‵ (flft κ q) ⊛ ‵ (flft κ′ q′) ⊛ ‵ ftrue) ∷ ‵ (owns (D.the-row ∷ u64 ∷ ShrSlice (named 0) κ u64 ∷ MutSlice (named 1) κ′ i64 ∷ []) a vals) ∷ []) ∵ enter ! (𝓣 .C) (𝓣 .Λ) code.function (directed s ∷ vint w64 d ∷ from-sheet ∷ place ∷ []) _ $
       alloc1 ! (λ l₀. alloc1 ! (λ l₁. alloc1 ! (λ l₂. alloc1 ! (λ l₃. alloc1 ! (λ l₄. alloc1 ! (λ l₅. alloc1 ! (λ l₆. alloc1 ! (λ l₇. alloc1 ! (λ l₈. alloc1 ! (λ l₉. alloc1 ! (λ l₁₀. alloc1 ! (λ l₁₁. alloc1 ! (λ l₁₂. alloc1 ! (λ l₁₃. alloc1 ! (λ l₁₄. alloc1 ! (λ l₁₅. alloc0 ! $ params1 ! $
       pass1 ! (init ! 28 refl (EL.lawful D.the-type D′.the-laws 𝓤 H A W tt .typed s _ s-is .0)) $ pass1 ! (init ! 26 refl (tt, record { fits = d-fits })) $ pass1 ! (init ! 24 refl (tt, (tt, (record { fits = room-m .0 }, tt)))) $ pass1 ! (init ! 22 refl (tt, (tt, (record { fits = room .0 }, tt)))) $ pass0 ! $
@@ -279,15 +277,15 @@ module _ {M : Type 1} (𝓤 : URA M) (H : Heap 𝓤) (A : Atoms 𝓤) (W : Given
       looks-slice ! tt u64 (Is u64) (shows 𝓤 H A u64) (uint-vals w64) (uint-tells w64) (uint-copy 𝓤 H A W w64) ms bm om (λ q₁.
       move ! (3 ∷ []) $ split ! $ move ! (6 ∷ []) $ fsplit ! $ fsplit ! $ let-go ! $ fsplit ! $ move ! (0 ∷ 1 ∷ 3 ∷ []) $ opens-slice ! tt i64 ys₀ b o $
       keep ! (0 ∷ 1 ∷ 2 ∷ 3 ∷ 6 ∷ 7 ∷ 8 ∷ 9 ∷ 10 ∷ 11 ∷ 12 ∷ 13 ∷ 14 ∷ 15 ∷ 16 ∷ 17 ∷ 18 ∷ 19 ∷ 20 ∷ 21 ∷ 22 ∷ 23 ∷ 24 ∷ 25 ∷ 26 ∷ 27 ∷ 28 ∷ 29 ∷ 30 ∷ 31 ∷ 32 ∷ 33 ∷ 34 ∷ 35 ∷ 36 ∷ 37 ∷ 38 ∷ 39 ∷ 40 ∷ 41 ∷ []) $
-      looped 𝓣 fm book-known signed-known q₁ l₀ l₁ l₂ l₃ l₄ l₅ l₆ l₇ l₈ l₉ l₁₀ l₁₁ l₁₂ l₁₃ l₁₄ l₁₅)))))))))))))))))
+      looped 𝓣 fm book-known sign-known q₁ l₀ l₁ l₂ l₃ l₄ l₅ l₆ l₇ l₈ l₉ l₁₀ l₁₁ l₁₂ l₁₃ l₁₄ l₁₅)))))))))))))))))
 
-module _ {M : Type 1} (𝓤 : URA M) (H : Heap 𝓤) (A : Atoms 𝓤) (W : Given 𝓤 H A) (mem′ : Memory → SProp 𝓤) (run : Routine → Fun 𝓤) (𝓣 : Tables 𝓤 H) (book-known : Triple 𝓤 (𝓣 .C #book) (Book 𝓤 H A mem′ run)) (signed-known : Triple 𝓤 (𝓣 .C #signed) (Sign 𝓤 H A mem′ run)) where
+module _ {M : Type 1} (𝓤 : URA M) (H : Heap 𝓤) (A : Atoms 𝓤) (W : Given 𝓤 H A) (mem′ : Memory → SProp 𝓤) (run : Routine → Fun 𝓤) (𝓣 : Tables 𝓤 H) (book-known : Triple 𝓤 (𝓣 .C #book) (Book 𝓤 H A mem′ run)) (sign-known : Triple 𝓤 (𝓣 .C #sign) (Sign 𝓤 H A mem′ run)) where
   book-all-walks : Walks 𝓤 H A f.ended stayed (WpFn 𝓤 H (𝓣 .C) (𝓣 .Λ) code.function) (f.clauses 𝓤 H A mem′ run)
   book-all-walks = walked 𝓤 H A f.ended stayed (f.clauses 𝓤 H A mem′ run) (WpFn 𝓤 H (𝓣 .C) (𝓣 .Λ) code.function)
       (λ κs. (EL.vals D.the-type D′.the-laws, (uint-vals w64, (slice-vals, (slice-vals, tt))))) (λ κs. (EL.tells D.the-type D′.the-laws, (uint-tells w64, (shr-slice-tells (named 0) (κs .0) u64, (mut-slice-tells (named 1) (κs .1 .0) i64, tt)))))
       (λ κs qs bounds a g are. needs 𝓤 (Needed (a .1 .0) (a .1 .1 .0 .now) (a .1 .1 .1 .0 .now)) _ (λ ok.
       walk 𝓤 H A W mem′ run (κs .0) (κs .1 .0) (qs .0) (qs .1 .0) (a .0) (a .1 .0) (a .1 .1 .0 .ptr .0) (a .1 .1 .0 .ptr .1) (a .1 .1 .0 .name) (a .1 .1 .0 .now) (a .1 .1 .1 .0 .ptr .0) (a .1 .1 .1 .0 .ptr .1) (a .1 .1 .1 .0 .name) (a .1 .1 .1 .0 .now)
-      (are .0) (are .1 .0 .1) (are .1 .1 .0 .0 .1) (are .1 .1 .1 .0 .0 .1) ok 𝓣 (fmOf 𝓤 H (W .laws) 𝓣) book-known signed-known))
+      (are .0) (are .1 .0 .1) (are .1 .1 .0 .0 .1) (are .1 .1 .1 .0 .0 .1) ok 𝓣 (fmOf 𝓤 H (W .laws) 𝓣) book-known sign-known))
 
   book-all-meets : Meets 𝓤 H A f.signature (WpFn 𝓤 H (𝓣 .C) (𝓣 .Λ) code.function) (f.spec 𝓤 H A mem′ run)
   book-all-meets =
@@ -301,5 +299,4 @@ book-all-spec 𝓤 H 𝓜 𝓖 𝓡 =
     entered 𝓤 H (tripleOf 𝓤 H (𝓖 .A) f.signature (f.spec 𝓤 H (𝓖 .A) (𝓜 .mem) (𝓡 .run)))
     (tables 𝓤 H 𝓜 𝓡 code.env .C) (tables 𝓤 H 𝓜 𝓡 code.env .Λ) #book-all code.function (code.unfolded 𝓤 H 𝓜 𝓡)
     (book-all-meets 𝓤 H (𝓖 .A) (givenOf 𝓤 H 𝓜 𝓖) (𝓜 .mem) (𝓡 .run) (tablesOf 𝓤 H 𝓜 (tables 𝓤 H 𝓜 𝓡 code.env))
-    (cited 𝓤 H (Book 𝓤 H (𝓖 .A) (𝓜 .mem) (𝓡 .run)) 𝓜 𝓡 code.env #book book-def.routine code.calls-energy·carry·book (book-thm.met 𝓤 H 𝓜 𝓖 𝓡))
-    (cited 𝓤 H (Sign 𝓤 H (𝓖 .A) (𝓜 .mem) (𝓡 .run)) 𝓜 𝓡 code.env #signed signed-def.routine code.calls-energy·carry·signed (signed-thm.met 𝓤 H 𝓜 𝓖 𝓡)))
+    (book-cited 𝓤 H 𝓜 𝓖 𝓡 code.env code.calls-energy·carry·book) (sign-cited 𝓤 H 𝓜 𝓖 𝓡 code.env code.calls-units·booked))

@@ -28,21 +28,19 @@ use denote.Struct.Laws as LL
 use denote.Triple.Statement.{Triple}
 use denote.Triple.Entry.{onEntry}
 use denote.Triple.Spec.{Meets, tripleOf}
-use denote.Triple.Table.{entered, cited}
+use denote.Triple.Table.{entered}
 use denote.Triple.Walked.{says, needs, Stays, stay-none, walkOf, goes-none, Walks, ends-at, walked, walk-meets}
 use denote.Exit.{yes}
 use Rattle.energy.specs.Carrying.{carryOf, bookedOf}
 use Rattle.energy.specs.declared.carry.Carry.{Carry}
 use Rattle.energy.specs.declared.carry.Booked.{Booked}
 use Rattle.energy.specs.declared.carry.Step.{Step}
-use Rattle.energy.proofs.Steps.{Book, carried, books}
+use Rattle.energy.proofs.Steps.{Book, book-cited, carried, books}
 use Rattle.energy.proofs.carry.Carry as T
 use Rattle.energy.proofs.carry.Carry.Laws as T′
 use Rattle.energy.proofs.carry.Step as S
 use Rattle.energy.proofs.carry.Step.Laws as S′
-use Rattle.energy.proofs.carry.book.Symbol as book-def
 use Rattle.energy.proofs.carry.book.Symbol.{name as #book}
-use Rattle.energy.proofs.carry.book.Met as book-thm
 use Rattle.energy.proofs.carry.book_step.Key.{name as #book-step}
 use Rattle.energy.proofs.carry.book_step as f
 use Rattle.energy.proofs.carry.book_step.Statement as stated
@@ -124,4 +122,4 @@ book-step-spec 𝓤 H 𝓜 𝓖 𝓡 =
     entered 𝓤 H (tripleOf 𝓤 H (𝓖 .A) f.signature (f.spec 𝓤 H (𝓖 .A) (𝓜 .mem) (𝓡 .run)))
     (tables 𝓤 H 𝓜 𝓡 code.env .C) (tables 𝓤 H 𝓜 𝓡 code.env .Λ) #book-step code.function (code.unfolded 𝓤 H 𝓜 𝓡)
     (book-step-meets 𝓤 H (𝓖 .A) (givenOf 𝓤 H 𝓜 𝓖) (𝓜 .mem) (𝓡 .run) (tablesOf 𝓤 H 𝓜 (tables 𝓤 H 𝓜 𝓡 code.env))
-    (cited 𝓤 H (Book 𝓤 H (𝓖 .A) (𝓜 .mem) (𝓡 .run)) 𝓜 𝓡 code.env #book book-def.routine code.calls-energy·carry·book (book-thm.met 𝓤 H 𝓜 𝓖 𝓡)))
+    (book-cited 𝓤 H 𝓜 𝓖 𝓡 code.env code.calls-energy·carry·book))

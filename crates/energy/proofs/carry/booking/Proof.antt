@@ -1,33 +1,29 @@
-use Rattle.energy.proofs.Carrying.{booked-same, booked-more, rest-fits, more-fits}
+-- `energy::carry::booking` meets its contract. Assumes nothing.
 use borrow.Author.Needs.{needs}
+use Rattle.energy.proofs.Carrying.{whole-fits, whole-below, booked-same, booked-more, rest-fits, more-fits}
 use Rattle.energy.proofs.carry.booking.Statement.{statement}
 use Rattle.energy.proofs.carry.booking.Tie as tie
-use Rattle.energy.proofs.carry.booking.Reads as reads
-use Rattle.energy.proofs.carry.booking.Lts as lts
 
--- src/carry.rt:28:17
-div-whole : tie.Need-div-whole
-div-whole c = search needs
+quotient-requires : tie.Need-quotient-requires
+quotient-requires c κs = search needs
 
--- src/carry.rt:29:30
-rem-rest : tie.Need-rem-rest
-rem-rest c = search needs
+mul-rest : tie.Need-mul-rest
+mul-rest c = let a = c .before .args in record { fits = whole-fits (a .c) (a .magnitude) (c .quotient .result) (c .quotient .ensures) (c .before .fits .magnitude .fits) }
 
--- src/carry.rt:29:16
+sub-rest : tie.Need-sub-rest
+sub-rest c = let a = c .before .args in whole-below (a .c) (a .magnitude) (c .quotient .result) (c .quotient .ensures)
+
 add-rest : tie.Need-add-rest
-add-rest c = let a = c .before .args in record { fits = rest-fits (a .c) (a .magnitude) (c .before .pre .0) (c .before .pre .1) }
+add-rest c = let a = c .before .before .args in record { fits = rest-fits (a .c) (a .magnitude) (c .before .quotient .result) (c .before .quotient .ensures) (c .before .before .pre .0) (c .before .before .pre .1) }
 
--- src/carry.rt:45:21
-add-t11 : tie.Need-add-t11
-add-t11 c = let a = c .before .before .args in record { fits = more-fits (a .c) (a .magnitude) (c .before .before .pre .0) (c .if1 .left) (c .before .before .fits .magnitude .fits) }
+add-t12 : tie.Need-add-t12
+add-t12 c = let a = c .before .before .before .args in record { fits = more-fits (a .c) (a .magnitude) (c .before .before .quotient .result) (c .before .before .quotient .ensures) (c .before .before .before .pre .0) (c .if1 .left) (c .before .before .before .fits .magnitude .fits) }
 
--- src/carry.rt:23:1
 returns : tie.Need-returns
-returns c = booked-same (c .before .before .args .c) (c .before .before .args .magnitude) (c .if1 .taken)
+returns c = let a = c .before .before .before .args in booked-same (a .c) (a .magnitude) (c .before .before .quotient .result) (c .before .before .quotient .ensures) (c .if1 .taken)
 
--- src/carry.rt:23:1
 returns-2 : tie.Need-returns-2
-returns-2 c = booked-more (c .before .before .args .c) (c .before .before .args .magnitude) (c .before .before .pre .0) (c .if1 .left)
+returns-2 c = let a = c .before .before .before .args in booked-more (a .c) (a .magnitude) (c .before .before .quotient .result) (c .before .before .quotient .ensures) (c .before .before .before .pre .0) (c .if1 .left)
 
 pub booking-spec : {M : Type 1} → statement M
-booking-spec = tie.close (tie.spec div-whole rem-rest add-rest add-t11 returns returns-2)
+booking-spec = tie.close (tie.spec quotient-requires mul-rest sub-rest add-rest add-t12 returns returns-2)

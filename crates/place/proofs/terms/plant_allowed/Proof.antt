@@ -2,7 +2,6 @@ use mathlib.Core.Path.{_∙_, ap}
 use borrow.Author.Tests.{le-leb, lt-leb}
 use borrow.Author.Needs.{needs}
 use Rattle.rules.specs.Terms.{isNominalPower, plantAllowed}
-use Rattle.place.proofs.Laws.{field-is}
 use Rattle.place.proofs.terms.plant_allowed.Statement.{statement}
 use Rattle.place.proofs.terms.plant_allowed.Tie as tie
 
@@ -28,20 +27,17 @@ returns-4 : tie.Need-returns-4
 unfolding plantAllowed
 returns-4 c = rw (le-leb 1 _ (c .before .before .before .before .if1 .left), le-leb _ 3 (c .before .before .before .if2 .left), le-leb 1 _ (c .before .if3 .left), lt-leb _ 2 (c .if4 .taken))
 
-link-at-requires : tie.Need-link-at-requires
-link-at-requires c κs = search needs
-
-watt-of-requires : tie.Need-watt-of-requires
-watt-of-requires c κs = search needs
+watt-at-requires : tie.Need-watt-at-requires
+watt-at-requires c κs = search needs
 
 is-nominal-power-requires : tie.Need-is-nominal-power-requires
 is-nominal-power-requires c κs = search needs
 
 returns-5 : tie.Need-returns-5
 unfolding plantAllowed
-returns-5 c = let a = c .before .before .before .before .before .before .before .before .before .before .args in
-    rw (le-leb 1 _ (c .before .before .before .before .before .before .before .if1 .left), le-leb _ 3 (c .before .before .before .before .before .before .if2 .left), le-leb 1 _ (c .before .before .before .before .if3 .left), le-leb _ 2 (c .before .before .before .if4 .left))
-    (c .is-nominal-power .ensures ∙ ap isNominalPower (field-is (a .plant .now) 16 _ _ (c .before .watt-of .ensures) (c .before .before .link-at .ensures .0)))
+returns-5 c =
+    rw (le-leb 1 _ (c .before .before .before .before .before .before .if1 .left), le-leb _ 3 (c .before .before .before .before .before .if2 .left), le-leb 1 _ (c .before .before .before .if3 .left), le-leb _ 2 (c .before .before .if4 .left))
+    (c .is-nominal-power .ensures ∙ ap isNominalPower (c .before .watt-at .ensures))
 
 pub plant-allowed-spec : {M : Type 1} → statement M
 plant-allowed-spec =
@@ -53,7 +49,6 @@ plant-allowed-spec =
     shared-slice-read-variant
     returns-3
     returns-4
-    link-at-requires
-    watt-of-requires
+    watt-at-requires
     is-nominal-power-requires
     returns-5)

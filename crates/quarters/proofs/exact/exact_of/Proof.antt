@@ -1,10 +1,15 @@
 -- `quarters::exact::exact_of` meets its contract. Assumes nothing.
+use mathlib.Core.Path.{sym, ap, subst, _∙_}
 use mathlib.Core.List.{[]}
-use native.Mathlib.Nat.{mul-le-mul}
+use Prim.Native.Nat.{_≤_}
 use native.Mathlib.Omega.{arith}
+use lib.IntN.{ℤ}
+use lib.Signed.{mag}
+use Rattle.rules.specs.Reference.{magnitude}
+use Rattle.units.proofs.Laws.{back}
 use Rattle.rules.specs.Terms.{quarterOf}
 use Rattle.energy.specs.References.{meaning}
-use Rattle.quarters.proofs.Exacts.{exact-unlimited, exact-unreferred, exact-room, exact-is}
+use Rattle.quarters.proofs.Exacts.{exact-unlimited, exact-unreferred, limited-small, told-small, exact-is}
 use borrow.Author.Needs.{needs}
 use Rattle.quarters.proofs.exact.exact_of.Statement.{statement}
 use Rattle.quarters.proofs.exact.exact_of.Tie as tie
@@ -39,25 +44,18 @@ returns-2 c = let a = c .before .before .before .before .before .before .before 
 denominator-requires : tie.Need-denominator-requires
 denominator-requires c κs = search needs
 
-mul-magnitude : tie.Need-mul-magnitude
-mul-magnitude c = search needs
-
-add-magnitude : tie.Need-add-magnitude
-add-magnitude c = let a = c .before .before .before .before .before .before .before .before .before .before .before .args in
-    let points = c .before .before .before .before .before .before .before .before .before .before .before .pre .1 .0 .0 in
-    let r = exact-room (a .direction) (a .execution) (meaning (a .reference) points) (quarterOf [] 0 (a .r .now)) (c .before .before .before .before .before .before .l .given .1) (c .before .before .before .before .before .before .before .before .limitation-of .ensures [] 0) (c .before .before .t .given .1) (c .before .before .before .before .numerator-of .ensures points [] 0 (c .before .before .before .before .before .before .before .before .before .before .before .pre .1 .0 .1)) in
-    omega arith
-
 magnitude-requires : tie.Need-magnitude-requires
-magnitude-requires c κs = let a = c .before .before .before .before .before .before .before .before .before .before .before .args in
+magnitude-requires c κs =
+    let a = c .before .before .before .before .before .before .before .before .before .before .before .args in
     let points = c .before .before .before .before .before .before .before .before .before .before .before .pre .1 .0 .0 in
-    let r = exact-room (a .direction) (a .execution) (meaning (a .reference) points) (quarterOf [] 0 (a .r .now)) (c .before .before .before .before .before .before .l .given .1) (c .before .before .before .before .before .before .before .before .limitation-of .ensures [] 0) (c .before .before .t .given .1) (c .before .before .before .before .numerator-of .ensures points [] 0 (c .before .before .before .before .before .before .before .before .before .before .before .pre .1 .0 .1)) in
-    omega (arith, mul-le-mul (r .0) (c .denominator .ensures .small))
+    let t = told-small (a .reference) points (quarterOf [] 0 (a .r .now)) (c .before .before .t .given .1) (c .before .before .before .before .numerator-of .ensures points [] 0 (c .before .before .before .before .before .before .before .before .before .before .before .pre .1 .0 .1)) (c .before .before .before .before .before .before .before .before .before .before .before .pre .0) in
+    (c .denominator .ensures .small, subst (λ (z : ℤ). mag z ≤ 4000000000000000000) (sym (back (c .before .before .t .given .0 .0) (omega (arith, t .fits)))) (t .fits), limited-small (a .direction) (a .execution) (meaning (a .reference) points) (quarterOf [] 0 (a .r .now)) (c .before .before .before .before .before .before .l .given .1) (c .before .before .before .before .before .before .before .before .limitation-of .ensures [] 0))
 
 returns-3 : tie.Need-returns-3
 returns-3 c = let a = c .before .before .before .before .before .before .before .before .before .before .before .before .args in
     λ points measure index t. exact-is (a .direction) (a .execution) (meaning (a .reference) points) (quarterOf measure index (a .r .now)) (c .before .before .before .before .before .before .before .l .given .1) (c .before .before .before .before .before .before .before .before .before .limitation-of .ensures measure index)
-    (c .before .before .before .t .given .1) (c .before .before .before .before .before .numerator-of .ensures points measure index t) (c .before .denominator .ensures .is points) (c .magnitude .ensures)
+    (c .before .before .before .t .given .1) (c .before .before .before .before .before .numerator-of .ensures points measure index t) (c .before .denominator .ensures .is points)
+    (c .magnitude .ensures ∙ ap (λ (z : ℤ). magnitude (a .direction) (c .before .denominator .result) z (c .before .before .before .before .before .before .before .l .given .0 .0 .0)) (back (c .before .before .before .t .given .0 .0) (omega (arith, told-small (a .reference) points (quarterOf measure index (a .r .now)) (c .before .before .before .t .given .1) (c .before .before .before .before .before .numerator-of .ensures points measure index t) (c .before .before .before .before .before .before .before .before .before .before .before .before .pre .0) .fits))))
 
 pub exact-of-spec : {M : Type 1} → statement M
 exact-of-spec =
@@ -72,7 +70,5 @@ exact-of-spec =
     enum-told-2
     returns-2
     denominator-requires
-    mul-magnitude
-    add-magnitude
     magnitude-requires
     returns-3)

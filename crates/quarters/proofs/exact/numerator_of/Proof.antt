@@ -1,5 +1,6 @@
 -- `quarters::exact::numerator_of` meets its contract. Assumes nothing.
 use mathlib.Core.Path.{subst}
+use Rattle.units.proofs.Laws.{back}
 use Rattle.rules.specs.Terms.{quarterOf}
 use Rattle.energy.specs.declared.reference.Reference.{Reference}
 use Rattle.energy.specs.References.{Bounded}
@@ -43,8 +44,8 @@ returns c = let a = c .before .before .before .before .before .before .args in
     λ points measure index. referred-told (c .before .before .reference .given .1) (a .curve) (a .table .now) points (quarterOf measure index (a .r .now)) (c .on-curve .result) (c .on-curve .ensures points measure index)
 
 returns-2 : tie.Need-returns-2
-returns-2 c = let a = c .before .before .before .before .before .args in
-    λ points measure index. referred-told (c .before .reference2 .given .1) (a .curve) (a .table .now) points (quarterOf measure index (a .r .now)) (over.Of (c .before .reference2 .given .0 .0) 1000000000) (λ t. last-referred (quarterOf measure index (a .r .now)) _ (subst Bounded (c .before .reference2 .given .1) (c .before .before .before .before .before .pre .0)))
+returns-2 c = let a = c .before .before .before .before .before .before .args in
+    λ points measure index. referred-told (c .before .before .reference2 .given .1) (a .curve) (a .table .now) points (quarterOf measure index (a .r .now)) (over.Of _) (λ t. last-referred (quarterOf measure index (a .r .now)) _ _ (back _ (c .struct-told .given .0 .1)))
 
 returns-3 : tie.Need-returns-3
 returns-3 c = let a = c .before .before .before .before .before .before .args in

@@ -1,6 +1,4 @@
 -- `quarters::exact::power_of` meets its contract. Assumes nothing.
-use mathlib.Core.Path.{sym, _∙_}
-use borrow.Author.Tests.{not-false}
 use Rattle.rules.specs.Terms.{isPower}
 use Rattle.quarters.proofs.Exacts.{out-of-range, in-range}
 use borrow.Author.Needs.{needs}
@@ -16,18 +14,8 @@ in-power-range-requires c κs = search needs
 returns : tie.Need-returns
 returns c = out-of-range isPower (c .before .in-power-range .ensures) (c .before .before .watt-at .ensures) (c .if1 .taken)
 
-raised-requires : tie.Need-raised-requires
-raised-requires c κs = sym (c .before .in-power-range .ensures) ∙ not-false _ (c .if1 .left)
-
 returns-2 : tie.Need-returns-2
-returns-2 c = (in-range isPower (c .before .before .in-power-range .ensures) (c .before .before .before .watt-at .ensures) (c .before .if1 .left), sym (c .before .before .before .watt-at .ensures) ∙ c .raised .ensures .0, c .raised .ensures .1)
+returns-2 c = (in-range isPower (c .before .in-power-range .ensures) (c .before .before .watt-at .ensures) (c .if1 .left), c .before .before .watt-at .ensures)
 
 pub power-of-spec : {M : Type 1} → statement M
-power-of-spec =
-    tie.close
-    (tie.spec
-    watt-at-requires
-    in-power-range-requires
-    returns
-    raised-requires
-    returns-2)
+power-of-spec = tie.close (tie.spec watt-at-requires in-power-range-requires returns returns-2)

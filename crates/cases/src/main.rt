@@ -1,0 +1,252 @@
+// Calls made by the outside program (reference/src/bin/cases.rs) and run here. The file `calls` has them one after another; each gives a
+// line with its refusal number, the count, total and links of a settle, and a checksum of the later list or archive.
+ghost use Prim.Native.Nat.{_+_, _≤_, _<_};
+ghost use mathlib.Core.Path.{_≡_};
+ghost use lib.ListN.{length};
+use settle::Settled;
+
+// ---- checksums
+
+// A prime above twice every amount, so that one wrong byte or amount always shows.
+const MODULUS: u64 = 10000000000000061;
+
+fn mix(sum: u64, n: u64) -> u64
+    requires { ⌜ sum < 10000000000000061 ⌝ }
+    ensures { λ r. ⌜ r < 10000000000000061 ⌝ }
+{
+    (257 * sum + n % MODULUS) % MODULUS
+}
+
+fn mix_byte(sum: u64, byte: u8) -> u64
+    requires { ⌜ sum < 10000000000000061 ⌝ }
+    ensures { λ r. ⌜ r < 10000000000000061 ⌝ }
+{
+    mix(sum, byte as u64)
+}
+
+// An amount's remainder; below zero it is what the magnitude's lacks.
+fn mix_amount(sum: u64, amount: i64) -> u64
+    requires { ⌜ sum < 10000000000000061 ⌝ }
+    ensures { λ r. ⌜ r < 10000000000000061 ⌝ }
+{
+    let n = text::magnitude(amount);
+    if amount < 0 {
+        return mix(sum, MODULUS - n % MODULUS);
+    }
+    mix(sum, n)
+}
+
+fn sum_of_bytes(bytes: &[u8]) -> u64 {
+    let mut sum: u64 = 0;
+    let mut i = 0;
+    while i < bytes.len() {
+        sum = mix_byte(sum, bytes[i]);
+        i += 1;
+    }
+    sum
+}
+
+fn sum_of_list(list: &[i64]) -> u64 {
+    let mut sum: u64 = 0;
+    let mut i = 0;
+    while i < list.len() {
+        sum = mix_amount(sum, list[i]);
+        i += 1;
+    }
+    sum
+}
+
+// ---- the calls
+
+struct Answer {
+    number: u64,
+    count: u64,
+    total: i64,
+    links: u64,
+    sum: u64,
+}
+
+// The answer of a call that gives nothing but its refusal number.
+fn number_only(number: u64, sum: u64) -> Answer {
+    Answer {
+        number,
+        count: 0,
+        total: 0,
+        links: 0,
+        sum,
+    }
+}
+
+fn settle_call(archive: &[u8], p: u64, k: u64, list: &mut [i64]) -> Answer {
+    match settle::settle(archive, p, k, list) {
+        Settled::Given(count, total, links) => Answer {
+            number: 0,
+            count,
+            total: total.0,
+            links,
+            sum: sum_of_list(list),
+        },
+        Settled::Refused(number) => number_only(number, sum_of_list(list)),
+    }
+}
+
+fn append_call(archive: &mut [u8], owner: u64, new: &[u8]) -> Answer {
+    let number = filing::append(archive, owner, new);
+    number_only(number, sum_of_bytes(archive))
+}
+
+fn fresh_call(archive: &mut [u8]) -> Answer {
+    let number = filing::fresh(archive);
+    number_only(number, sum_of_bytes(archive))
+}
+
+// The count is the part's length.
+fn show_call(archive: &[u8], number: u64) -> Answer {
+    let part = archive::show(archive, number);
+    Answer {
+        number: 0,
+        count: part.len() as u64,
+        total: 0,
+        links: 0,
+        sum: sum_of_bytes(part),
+    }
+}
+
+// ---- a call in the file
+
+// Which call, and its two numbers: plant and measure place, or the owner's or record's number. So many bytes follow for the archive's
+// start, whose further bytes stay as the last call left them; the archive has `size` bytes; `filed` bytes of a new record follow; the
+// list has `places` places.
+struct Call {
+    name: u64,
+    first: u64,
+    second: u64,
+    given: usize,
+    size: usize,
+    filed: usize,
+    places: usize,
+}
+
+// Eight bytes, little-endian.
+fn double_word(r: &[u8], at: usize) -> u64
+    requires { ⌜ at + 8 ≤ length (now r) ⌝ }
+{
+    archive::link_at(r, at) + 4294967296 * archive::link_at(r, at + 4)
+}
+
+fn call_of(r: &[u8]) -> Call
+    requires { ⌜ length (now r) ≡ 36 ⌝ }
+{
+    Call {
+        name: archive::link_at(r, 0),
+        first: double_word(r, 4),
+        second: double_word(r, 12),
+        given: archive::link_at(r, 20) as usize,
+        size: archive::link_at(r, 24) as usize,
+        filed: archive::link_at(r, 28) as usize,
+        places: archive::link_at(r, 32) as usize,
+    }
+}
+
+fn answer_to(call: Call, archive: &mut [u8], new: &[u8], list: &mut [i64]) -> Answer {
+    if call.name == 1 {
+        return settle_call(archive, call.first, call.second, list);
+    }
+    if call.name == 2 {
+        return append_call(archive, call.first, new);
+    }
+    if call.name == 3 {
+        return number_only(filing::audit(archive), 0);
+    }
+    if call.name == 4 {
+        return show_call(archive, call.first);
+    }
+    fresh_call(archive)
+}
+
+// ---- lines
+
+fn put_line(answer: Answer, out: &mut [u8]) -> usize
+    requires { ⌜ 128 ≤ length (now out) ⌝ }
+    ensures { λ r. ⌜ r ≤ 128 ⌝ }
+{
+    let a = text::put_decimal(out, 0, answer.number);
+    let b = text::put_number(out, a, answer.count);
+    let c = text::put_amount(out, b, answer.total);
+    let d = text::put_number(out, c, answer.links);
+    let e = text::put_number(out, d, answer.sum);
+    text::put_byte(out, e, b'\n')
+}
+
+fn write_line(answer: Answer) -> bool {
+    let mut out = [0u8; 128];
+    let end = put_line(answer, &mut out);
+    io::write_all(libc::STDOUT_FILENO, &out[..end])
+}
+
+// ---- the file
+
+// The next bytes of the file: false where there are too few, or no room for them.
+fn read_start(fd: i32, part: &mut [u8], n: usize) -> bool {
+    if part.len() < n {
+        return false;
+    }
+    io::read_full(fd, &mut part[..n]) == n
+}
+
+// False where the call asks for more than the parts have, or its line can't be written.
+fn run_call(call: Call, archive: &mut [u8], new: &[u8], list: &mut [i64]) -> bool {
+    let size = call.size;
+    let filed = call.filed;
+    let places = call.places;
+    if archive.len() < size {
+        return false;
+    }
+    if new.len() < filed {
+        return false;
+    }
+    if list.len() < places {
+        return false;
+    }
+    write_line(answer_to(
+        call,
+        &mut archive[..size],
+        &new[..filed],
+        &mut list[..places],
+    ))
+}
+
+// The next call: false at the file's end.
+fn run_next(fd: i32, archive: &mut [u8], new: &mut [u8], list: &mut [i64]) -> bool {
+    let mut head = [0u8; 36];
+    if !read_start(fd, &mut head, 36) {
+        return false;
+    }
+    let call = call_of(&head);
+    if !read_start(fd, archive, call.given) {
+        return false;
+    }
+    if !read_start(fd, new, call.filed) {
+        return false;
+    }
+    run_call(call, archive, new, list)
+}
+
+fn run(fd: i32, archive: &mut [u8], new: &mut [u8], list: &mut [i64]) {
+    let mut left: u64 = 65536;
+    while 0 < left && run_next(fd, archive, new, list) {
+        left -= 1;
+    }
+}
+
+fn main() {
+    let mut archive = [0u8; 131072];
+    let mut new = [0u8; 64];
+    let mut list = [0i64; 4096];
+    let fd = os::open_read(b"calls");
+    if fd < 0 {
+        return;
+    }
+    run(fd, &mut archive, &mut new, &mut list);
+    libc::close(fd);
+}

@@ -1,0 +1,370 @@
+//! Writes the calls that crates/cases runs, DIR/data/calls, and the lines that it has to print, DIR/stdout.
+//!
+//! Argument: the directory. Exit status 1 if a refusal number, a pairing or a wrong reading is not reached.
+//!
+//! A call is 36 bytes, little-endian: which call (4), its two numbers (8 each), and 4 bytes each for how many bytes
+//! follow for the archive's start, the archive's size, how many bytes of a new record follow then, and the list's
+//! places. Archive and list are otherwise as the calls before left them, so a long archive is written once.
+//!
+//! Its line has the refusal number, count, total, links and a checksum: settle's of the later list, append's and
+//! fresh's of the later archive, show's of its part, whose length is the count.
+
+use reference::archive::{used, RECORD};
+use reference::builder::*;
+use reference::generate::{self, Call, NUMBERS, SETTLED};
+use reference::rng::Rng;
+use reference::settle::{terms, Answer, Pairing};
+use reference::slips::{self, Of, Slip, SLIPS};
+use std::collections::BTreeMap;
+use std::fmt::Write;
+use std::path::Path;
+use std::process::ExitCode;
+use std::{env, fs, io};
+
+// What crates/cases has room for.
+const ARCHIVE: usize = 131_072;
+const PLACES: usize = 4_096;
+
+const SEED: u64 = 5;
+/// Generated calls looked at.
+const LOOKED_AT: u64 = 20_000;
+/// The first generated calls of at most `SMALL` bytes are all taken, later ones where they reach something rare.
+const TAKEN: usize = 120;
+const SMALL: usize = 640;
+const LARGE: usize = 8_192;
+
+const MODULUS: u64 = 10_000_000_000_000_061;
+
+fn mix(sum: u64, number: u64) -> u64 {
+    (257 * sum + number % MODULUS) % MODULUS
+}
+
+fn sum_of_bytes(bytes: &[u8]) -> u64 {
+    bytes.iter().fold(0, |sum, &byte| mix(sum, u64::from(byte)))
+}
+
+fn sum_of_list(list: &[i64]) -> u64 {
+    list.iter().fold(0, |sum, &amount| mix(sum, amount.rem_euclid(MODULUS as i64) as u64))
+}
+
+/// A call on the archive and list as they are.
+#[derive(Clone, Copy)]
+enum Step<'a> {
+    Settle { p: u64, k: u64, places: usize },
+    Append { owner: u64, record: &'a [u8] },
+    Audit,
+    Show { number: u64 },
+    Fresh,
+}
+
+use Step::*;
+
+/// What a step reaches: its refusal number or how it shows, the terms that it settles, the wrong readings that it tells.
+fn reaches(archive: &[u8], list: &[i64], step: Step) -> Vec<String> {
+    let mut reached = Vec::new();
+    let mut number = |call: &str, number| reached.push(format!("{call} {number}"));
+    let told: Vec<Slip> = match step {
+        Settle { p, k, places } => {
+            let bytes: Vec<u8> = list[..places].iter().flat_map(|amount| amount.to_le_bytes()).collect();
+            let settle = |slip| {
+                let (mut list, mut result) = (bytes.clone(), [0; 24]);
+                (slips::host_settle(slip, archive, p, k, &mut list, &mut result), list, result)
+            };
+            let right = settle(Slip::None);
+            number("settle", right.0);
+            if let (0, Some((pairing, direction, execution))) = (right.0, terms(archive, p, k)) {
+                reached.push(settled(pairing, direction, execution));
+            }
+            told(Of::Settle, |slip| settle(slip) != right)
+        }
+        Append { owner, record } => {
+            let append = |slip| {
+                let mut later = archive.to_vec();
+                (slips::append(slip, &mut later, owner, record), later)
+            };
+            let right = append(Slip::None);
+            number("append", right.0);
+            told(Of::Append, |slip| append(slip) != right)
+        }
+        Audit => {
+            let right = slips::audit(Slip::None, archive);
+            number("audit", right);
+            told(Of::Audit, |slip| slips::audit(slip, archive) != right)
+        }
+        Show { number } => {
+            reached.push(shows(archive, number).to_string());
+            let right = slips::show_place(Slip::None, archive, number);
+            told(Of::Show, |slip| slips::show_place(slip, archive, number) != right)
+        }
+        Fresh => {
+            let fresh = |slip| {
+                let mut later = archive.to_vec();
+                (slips::fresh(slip, &mut later), later)
+            };
+            let right = fresh(Slip::None);
+            number("fresh", right.0);
+            told(Of::Fresh, |slip| fresh(slip) != right)
+        }
+    };
+    reached.extend(told.iter().map(|slip| format!("{slip:?}")));
+    reached
+}
+
+fn told(of: Of, differs: impl Fn(Slip) -> bool) -> Vec<Slip> {
+    SLIPS.iter().filter(|&&(slip, own, _, _)| own == of && differs(slip)).map(|&(slip, _, _, _)| slip).collect()
+}
+
+fn settled(pairing: Pairing, direction: u8, execution: u8) -> String {
+    format!("{pairing:?} {} execution {execution}", if direction == 1 { "positive" } else { "negative" })
+}
+
+const SHOWS: [&str; 3] = ["show: a record", "show: empty on 1", "show: empty from U on"];
+
+fn shows(archive: &[u8], number: u64) -> &'static str {
+    match used(archive) {
+        Ok(used) if number < used => SHOWS[0],
+        Err(_) => SHOWS[1],
+        Ok(_) => SHOWS[2],
+    }
+}
+
+/// Wrong readings that show only in the C entry, and those of the program.
+fn elsewhere(slip: Slip, of: Of) -> bool {
+    use Slip::*;
+    of == Of::Program || matches!(slip, ResultFirst | ResultLonger | ZeroedResult | RaggedPlace | ListWritten)
+}
+
+/// Everything that has to be reached, and how often a generated call is taken for it.
+fn wanted() -> Vec<(String, u64)> {
+    let mut wanted = Vec::new();
+    for (call, numbers) in NUMBERS {
+        wanted.extend(numbers.iter().map(|number| (format!("{call} {number}"), 6)));
+    }
+    wanted.extend(SHOWS.map(|how| (how.to_string(), 4)));
+    for (pairing, direction) in SETTLED {
+        wanted.extend((1..=3).map(|execution| (settled(pairing, direction, execution), 4)));
+    }
+    for &(slip, of, _, _) in SLIPS {
+        if !elsewhere(slip, of) {
+            wanted.push((format!("{slip:?}"), 2));
+        }
+    }
+    wanted
+}
+
+struct Cases {
+    archive: Vec<u8>,
+    list: Vec<i64>,
+    calls: Vec<u8>,
+    lines: String,
+    reached: BTreeMap<String, u64>,
+}
+
+impl Cases {
+    /// Bytes for the archive's start, the archive's size and the call.
+    fn run(&mut self, given: &[u8], size: usize, step: Step) {
+        self.archive[..given.len()].copy_from_slice(given);
+        for what in reaches(&self.archive[..size], &self.list, step) {
+            *self.reached.entry(what).or_default() += 1;
+        }
+        let (name, first, second, record, places): (u32, u64, u64, &[u8], usize) = match step {
+            Settle { p, k, places } => (1, p, k, &[], places),
+            Append { owner, record } => (2, owner, 0, record, 0),
+            Audit => (3, 0, 0, &[], 0),
+            Show { number } => (4, number, 0, &[], 0),
+            Fresh => (5, 0, 0, &[], 0),
+        };
+        self.calls.extend(name.to_le_bytes());
+        self.calls.extend(first.to_le_bytes());
+        self.calls.extend(second.to_le_bytes());
+        for length in [given.len(), size, record.len(), places] {
+            self.calls.extend((length as u32).to_le_bytes());
+        }
+        self.calls.extend(given);
+        self.calls.extend(record);
+
+        let (archive, list) = (&mut self.archive[..size], &mut self.list[..places]);
+        let (answer, sum) = match step {
+            Settle { p, k, .. } => (reference::settle(archive, p, k, list), sum_of_list(list)),
+            Append { owner, .. } => {
+                let number = reference::append(archive, owner, record);
+                (Answer::refused(number), sum_of_bytes(archive))
+            }
+            Audit => (Answer::refused(reference::audit(archive)), 0),
+            Show { number } => {
+                let part = reference::show(archive, number);
+                (Answer { count: part.len() as u64, ..Answer::refused(0) }, sum_of_bytes(part))
+            }
+            Fresh => {
+                let number = reference::fresh(archive);
+                (Answer::refused(number), sum_of_bytes(archive))
+            }
+        };
+        let Answer { number, count, total, links } = answer;
+        writeln!(self.lines, "{number} {count} {total} {links} {sum}").expect("a string takes every line");
+    }
+
+    /// Generated calls that reach what fewer than its share of calls have reached; the first `all` whatever they reach.
+    fn generated(&mut self, wanted: &[(String, u64)], most: usize, mut all: usize) {
+        for index in 0..LOOKED_AT {
+            let call = generate::call(SEED, index).call;
+            let (archive, step) = match &call {
+                Call::Settle { archive, p, k, list, .. } => (archive, Settle { p: *p, k: *k, places: list.len() / 8 }),
+                Call::Append { archive, owner, record } => (archive, Append { owner: *owner, record }),
+                Call::Audit { archive } => (archive, Audit),
+                Call::Show { archive, number } => (archive, Show { number: *number }),
+                Call::Fresh { archive } => (archive, Fresh),
+            };
+            if archive.len() > most {
+                continue;
+            }
+            let reached = reaches(archive, &self.list, step);
+            let rare = |(what, times): &(String, u64)| {
+                reached.contains(what) && self.reached.get(what).copied().unwrap_or(0) < *times
+            };
+            if all > 0 || wanted.iter().any(rare) {
+                all = all.saturating_sub(1);
+                self.run(archive, archive.len(), step);
+            }
+        }
+    }
+
+    /// A plant filed record by record into a fresh archive, audited, settled and shown.
+    fn filed(&mut self, pairing: Pairing, direction: u8, rng: &mut Rng) {
+        let sheet = sheet(pairing, direction, 7, rng);
+        let measure = &sheet.measures[0];
+        let size = RECORD * 18;
+        let file = |cases: &mut Cases, owner, record: &[u8]| cases.run(&[], size, Append { owner, record });
+        self.run(&[], size, Fresh);
+        file(self, 0, &plant_record(&sheet, rng, true));
+        file(self, 1, &measure_record(measure, rng, true));
+        for at in 0..7 {
+            file(self, 2, &quarter_record(&measure.quarters[at], rng, true));
+            if let Some(before) = measure.before.get(at) {
+                file(self, 2, &before_record(before, rng, true));
+            }
+            if let Some(point) = sheet.curve.get(at) {
+                file(self, 1, &point_record(point, rng, true));
+            }
+        }
+        self.run(&[], size, Audit);
+        self.run(&[], size, Settle { p: 1, k: 1, places: 7 });
+        for number in [0, 1, 2, 17] {
+            self.run(&[], size, Show { number });
+        }
+        file(self, 2, &quarter_record(&measure.quarters[0], rng, true));
+    }
+
+    /// A chain of 2,975 to 2,978 quarters in every pairing, direction and execution.
+    fn long(&mut self, rng: &mut Rng) {
+        let plant = sheet(Pairing::WindSpitz, 2, 2_975, rng);
+        let quarter = quarter_record(&plant.measures[0].quarters[0], rng, true);
+        let filed = file(&[plant], &Layout { spare: 3, noise: true, ..Layout::PLAIN }, rng);
+        let (size, measure) = (filed.bytes.len(), filed.plants[0].measures[0].number);
+        let settle = |places| Settle { p: 1, k: 1, places };
+        let append = Append { owner: measure, record: &quarter };
+        self.run(&filed.bytes, size, settle(2_974));
+        self.run(&[], size, settle(2_975));
+        self.run(&[], size, append);
+        self.run(&[], size, Audit);
+        let at = RECORD * measure as usize;
+        for (pairing, direction) in SETTLED {
+            for execution in 1..=3 {
+                let mut start = self.archive[..at + RECORD].to_vec();
+                (start[RECORD + 1], start[RECORD + 2]) = numbers(pairing);
+                (start[at + 1], start[at + 2]) = (direction, execution);
+                self.run(&start, size, settle(2_976));
+            }
+        }
+        self.run(&[], size, append);
+        self.run(&[], size, settle(2_977));
+        // The last quarter falls behind U: 2 comes before 8.
+        let head = self.archive[..RECORD].to_vec();
+        let mut fewer = head.clone();
+        fewer[4] -= 1;
+        self.run(&fewer, size, settle(2_977));
+        self.run(&[], size, Audit);
+        self.run(&head, size, append);
+        self.run(&[], size, append);
+        self.run(&[], size, Audit);
+        self.run(&[], size, Show { number: (size / RECORD) as u64 - 1 });
+    }
+}
+
+/// Technology and variant.
+fn numbers(pairing: Pairing) -> (u8, u8) {
+    match pairing {
+        Pairing::WindSpitz => (1, 1),
+        Pairing::WindPauschal => (1, 2),
+        Pairing::SolarSpitz => (2, 1),
+        Pairing::SolarPauschal => (2, 2),
+        Pairing::OtherSpitz => (3, 1),
+        Pairing::OtherPauschal => (3, 2),
+    }
+}
+
+/// A plant with three curve points and one measure of four before-quarters, whose fields suit every pairing.
+fn sheet(pairing: Pairing, direction: u8, quarters: usize, rng: &mut Rng) -> Plant {
+    let (technology, variant) = numbers(pairing);
+    let curve = [(30, 0), (120, 1_400_001), (250, 1_999_999)];
+    let before = |rng: &mut Rng| Before {
+        mark: 1,
+        measured: rng.range(300_000, 1_900_000) as i32,
+        weather: rng.range(40, 240) as i32,
+    };
+    let quarter = |at: usize, rng: &mut Rng| Quarter {
+        month: 1 + (at / 96 % 12) as u8,
+        time: (at % 96) as u8,
+        measured: rng.range(-100_000, 900_000) as i32,
+        limit: rng.range(0, 900_000) as i32,
+        weather: rng.range(20, 260) as i32,
+        planned: rng.range(0, 2_000_000) as i32,
+    };
+    let measure = Measure {
+        direction,
+        execution: rng.range(1, 3) as u8,
+        before: (0..4).map(|_| before(rng)).collect(),
+        quarters: (0..quarters).map(|at| quarter(at, rng)).collect(),
+    };
+    Plant {
+        technology,
+        variant,
+        nominal: 2_000_000,
+        curve: curve.map(|(speed, power)| Point { speed, power }).to_vec(),
+        measures: vec![measure],
+    }
+}
+
+fn main() -> io::Result<ExitCode> {
+    let directory = env::args().nth(1).expect("usage: cases DIR");
+    let wanted = wanted();
+    let mut cases = Cases {
+        archive: vec![0; ARCHIVE],
+        list: vec![0; PLACES],
+        calls: Vec::new(),
+        lines: String::new(),
+        reached: BTreeMap::new(),
+    };
+    cases.generated(&wanted, SMALL, TAKEN);
+    let rng = &mut Rng::new(SEED, 0);
+    for (pairing, direction) in SETTLED {
+        cases.filed(pairing, direction, rng);
+    }
+    cases.long(rng);
+    // What no small archive reaches.
+    cases.generated(&wanted, LARGE, 0);
+
+    let directory = Path::new(&directory);
+    fs::create_dir_all(directory.join("data"))?;
+    fs::write(directory.join("data/calls"), &cases.calls)?;
+    fs::write(directory.join("stdout"), &cases.lines)?;
+    let mut status = ExitCode::SUCCESS;
+    for (what, _) in &wanted {
+        if !cases.reached.contains_key(what) {
+            println!("MISSED: {what}");
+            status = ExitCode::FAILURE;
+        }
+    }
+    println!("{} calls in {} bytes, {} situations", cases.lines.lines().count(), cases.calls.len(), wanted.len());
+    Ok(status)
+}
