@@ -6,7 +6,7 @@
 # make check-pages  generated cases against a reader made from docs/FORMAT.md and docs/RULES.md alone (ARCHIVES=, SEED=)
 # make cases    the outside program's calls and answers for crates/cases, written anew
 # make bench    times beside the outside program's, as ratios
-.PHONY: run test program lib install printed check-c check-program check-cases cases compare check-pages bench
+.PHONY: run test program lib install printed check-reference check-c check-program check-cases cases compare check-pages bench
 
 PREFIX ?= /usr/local
 LIB := target/lib
@@ -51,6 +51,10 @@ endef
 install: lib
 	$(call put,$(DESTDIR)$(PREFIX),$(PREFIX))
 
+# The outside program's own tests.
+check-reference:
+	$(CARGO) test -q --release
+
 # Document 01's printed example by the outside program.
 printed:
 	$(CARGO) run -q --release --bin example -- $(CURDIR)/$(PRINTED)
@@ -82,8 +86,7 @@ compare: lib
 check-pages: lib program
 	$(CARGO) build -q --release --features compare --bin ask --bin reader
 	$(ASK) target/bin/sandegmur
-	target/reference/release/reader < $(PAGES)/cases > $(PAGES)/read; \
-	  cmp $(PAGES)/lines $(PAGES)/read || { $(ASK); exit 1; }
+	target/reference/release/reader < $(PAGES)/cases > $(PAGES)/read && cmp $(PAGES)/lines $(PAGES)/read || { $(ASK); exit 1; }
 	@echo "no difference between the library and the reader of the pages"
 
 bench: lib program
