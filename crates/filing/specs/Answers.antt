@@ -1,22 +1,14 @@
 -- What the answers of the code stand for: document 01's number and values for each case.
 use Prim.Native.Nat.{ℕ, _+_, _*_, _≤_, _<_}
 use mathlib.Core.Path.{_≡_}
-use mathlib.Core.List.{List, [], _∷_}
+use mathlib.Core.List.{List}
 use lib.ListN.{length}
 use Rattle.rules.specs.Outcome.{Outcome, refused, given}
-use Rattle.rules.specs.Links.{Link, link}
 use Rattle.rules.specs.Filing.{appendAfter, append}
-use Rattle.filing.specs.declared.Owned.{Owned}
-use Rattle.filing.specs.declared.Owned.the-variants.{None, Two}
 use Rattle.filing.specs.declared.Offset.{Offset}
 use Rattle.filing.specs.declared.Offset.the-variants as offset
 use Rattle.filing.specs.declared.Place.{Place}
 use Rattle.filing.specs.declared.Place.the-variants as place
-
--- the links from byte 8 on, by the kinds that they lead to
-abbrev pub ownedLinks : Owned → List Link
-ownedLinks None = []
-ownedLinks (Two first second) = link 8 first ∷ link 12 second ∷ []
 
 -- the byte of the owner's link, or 15
 abbrev pub offsetOutcome : Offset → Outcome ℕ

@@ -1,18 +1,14 @@
 // Fresh, append and audit (document 01, 'Calls on the archive').
 ghost use mathlib.Core.Path.{_≡_};
-ghost use mathlib.Core.List.{map, _∷_, []};
 ghost use Prim.Native.Nat.{_+_, _*_, _≤_, _<_, _^_};
 ghost use lib.ListN.{length, replicate};
 ghost use Rattle.rules.specs.Encoding.{word, put};
-ghost use Rattle.rules.specs.Links.{link, isKind, ownedBy, linksAt, standsAt, linkPlaces};
 ghost use Rattle.rules.specs.Filing.{newAllowed, offsetFor, appendAfter};
-ghost use Rattle.rules.specs.Audit.{linkChecked, recordChecked, recordsChecked};
 ghost use Rattle.rules.specs.Promises.{Freshens, Appends, Audits};
-ghost use Rattle.filing.specs.Answers.{ownedLinks, offsetOutcome, Places};
-ghost use Rattle.filing.specs.Marks.{marked, markedOnce, Checked};
+ghost use Rattle.filing.specs.Answers.{offsetOutcome, Places};
 use archive::ChainEnd;
 use archive::Head;
-use archive::Link;
+use marks::Owned;
 use rules::kind;
 use rules::refusal;
 
@@ -70,36 +66,6 @@ pub fn fresh(archive: &mut [u8]) -> u64
     0
 }
 
-// ---- the links of a record
-
-// The known kinds, 1-5.
-fn is_kind(kind: u8) -> bool
-    ensures { λ r. ⌜ r ≡ isKind kind ⌝ }
-{
-    kind::PLANT <= kind && kind <= kind::QUARTER
-}
-
-// The kinds that the links at bytes 8 and 12 of a record lead to, if it has them: a plant's points and measures, a measure's
-// before-quarters and quarters.
-enum Owned {
-    None,
-    Two(u8, u8),
-}
-
-fn owned_by(r: &[u8]) -> Owned
-    requires { ⌜ length (now r) ≡ 32 ⌝ }
-    ensures { λ o. ⌜ ownedLinks o ≡ ownedBy (now (r .entry)) ⌝ }
-{
-    let kind = archive::kind_of(r);
-    if kind == kind::PLANT {
-        return Owned::Two(kind::POINT, kind::MEASURE);
-    }
-    if kind == kind::MEASURE {
-        return Owned::Two(kind::BEFORE, kind::QUARTER);
-    }
-    Owned::None
-}
-
 // ---- append
 
 // 14: 32 bytes of a known kind with every link zero.
@@ -109,13 +75,13 @@ fn new_allowed(new: &[u8]) -> bool
     if new.len() != 32 {
         return false;
     }
-    if !is_kind(archive::kind_of(new)) {
+    if !marks::is_kind(archive::kind_of(new)) {
         return false;
     }
     if archive::link_at(new, 4) != 0 {
         return false;
     }
-    let Owned::Two(_, _) = owned_by(new) else {
+    let Owned::Two(_, _) = marks::owned_by(new) else {
         return true;
     };
     if archive::link_at(new, 8) != 0 {
@@ -145,7 +111,7 @@ fn offset_for(archive: &[u8], used: u64, owner: u64, kind: u8) -> Offset
         return Offset::Refused(refusal::BAD_OWNER);
     }
     let i = owner as usize;
-    let Owned::Two(first, second) = owned_by(&archive[32 * i..32 * i + 32]) else {
+    let Owned::Two(first, second) = marks::owned_by(&archive[32 * i..32 * i + 32]) else {
         return Offset::Refused(refusal::BAD_OWNER);
     };
     if kind == first {
@@ -214,90 +180,6 @@ pub fn append(archive: &mut [u8], owner: u64, new: &[u8]) -> u64
 
 // ---- audit
 
-// Record n is named once more; a table of 65,536 marks has a place for every number.
-fn mark(marks: &mut [u8], n: u64)
-    requires { ⌜ n < length (now marks) ⌝ }
-    ensures { λ _. ⌜ now (marks .exit) ≡ marked (now (marks .entry)) n ⌝ }
-{
-    let i = n as usize;
-    let m = marks[i];
-    if m < 2 {
-        marks[i] = m + 1;
-    }
-}
-
-// A link of record n, by its byte and the kind that it leads to: 2, 3. What it names is marked.
-fn check_link(archive: &[u8], used: u64, n: u64, at: usize, to: u8, marks: &mut [u8]) -> u64
-    requires { ⌜ (32 * used ≤ length (now archive)) × (n < used) × (at + 4 ≤ 32) × (used < 65536) × (length (now marks) ≡ 65536) ⌝ }
-    ensures { λ r. ⌜ Checked (now (archive .entry)) (linkChecked (now (archive .entry)) used n (link at to)) (standsAt n (link at to) ∷ []) (now (marks .entry)) (now (marks .exit)) r ⌝ }
-{
-    let answer = archive::follow(archive, used, to, n, archive::link_of(archive, n, at));
-    let Link::At(named) = answer else {
-        return archive::refusal_of(answer, 0);
-    };
-    mark(marks, named);
-    0
-}
-
-// The kind of record n, then its links in byte order; the head has one link and no kind.
-fn check_record(archive: &[u8], used: u64, n: u64, marks: &mut [u8]) -> u64
-    requires { ⌜ (32 * used ≤ length (now archive)) × (n < used) × (used < 65536) × (length (now marks) ≡ 65536) ⌝ }
-    ensures { λ r. ⌜ Checked (now (archive .entry)) (recordChecked (now (archive .entry)) used n) (map (standsAt n) (linksAt (now (archive .entry)) n)) (now (marks .entry)) (now (marks .exit)) r ⌝ }
-{
-    if n == 0 {
-        return check_link(archive, used, 0, 8, kind::PLANT, marks);
-    }
-    let i = n as usize;
-    let r = &archive[32 * i..32 * i + 32];
-    let kind = archive::kind_of(r);
-    if !is_kind(kind) {
-        return refusal::WRONG_KIND;
-    }
-    let next = check_link(archive, used, n, 4, kind, marks);
-    if next != 0 {
-        return next;
-    }
-    let Owned::Two(first, second) = owned_by(r) else {
-        return 0;
-    };
-    let number = check_link(archive, used, n, 8, first, marks);
-    if number != 0 {
-        return number;
-    }
-    check_link(archive, used, n, 12, second, marks)
-}
-
-// All used records by number.
-fn check_records(archive: &[u8], used: u64, marks: &mut [u8]) -> u64
-    requires { ⌜ (32 * used ≤ length (now archive)) × (used < 65536) × (length (now marks) ≡ 65536) ⌝ }
-    ensures { λ r. ⌜ Checked (now (archive .entry)) (recordsChecked (now (archive .entry)) used used) (linkPlaces (now (archive .entry)) used) (now (marks .entry)) (now (marks .exit)) r ⌝ }
-{
-    let mut n: u64 = 0;
-    while n < used {
-        let number = check_record(archive, used, n, marks);
-        if number != 0 {
-            return number;
-        }
-        n += 1;
-    }
-    0
-}
-
-// Each used record but the head is named once.
-fn all_once(marks: &[u8], used: u64) -> bool
-    requires { ⌜ (1 ≤ used) × (used ≤ length (now marks)) ⌝ }
-    ensures { λ r. ⌜ r ≡ markedOnce (now (marks .entry)) used ⌝ }
-{
-    let mut i = 1;
-    while i < used {
-        if marks[i as usize] != 1 {
-            return false;
-        }
-        i += 1;
-    }
-    true
-}
-
 // 1; the head's link and each record by number; then 17.
 pub fn audit(archive: &[u8]) -> u64
     ensures { λ r. ⌜ Audits (now (archive .entry)) r ⌝ }
@@ -307,11 +189,11 @@ pub fn audit(archive: &[u8]) -> u64
         Head::Refused(number) => return number,
     };
     let mut marks = [0u8; 65536];
-    let number = check_records(archive, used, &mut marks);
+    let number = marks::check_records(archive, used, &mut marks);
     if number != 0 {
         return number;
     }
-    if all_once(&marks, used) {
+    if marks::all_once(&marks, used) {
         return 0;
     }
     refusal::NOT_NAMED_ONCE

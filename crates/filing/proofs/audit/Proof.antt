@@ -6,16 +6,16 @@ use borrow.Author.Needs.{needs}
 use Rattle.rules.specs.Outcome.{given}
 use Rattle.rules.specs.Archive.{usedOf}
 use Rattle.rules.proofs.AppendSteps.{used-within}
-use Rattle.filing.specs.Marks.{noMarks}
-use Rattle.filing.proofs.Laws.{headOutcome, head-says}
-use Rattle.filing.proofs.AuditLaws.{no-marks, audit-unread, audit-refused, audit-done}
+use Rattle.marks.specs.Marks.{noMarks}
+use Rattle.marks.proofs.Laws.{no-marks}
+use Rattle.filing.proofs.Laws.{headOutcome, head-says, audit-unread, audit-refused, audit-done}
 use Rattle.filing.proofs.audit.Statement.{statement}
 use Rattle.filing.proofs.audit.Tie as tie
 use Rattle.filing.proofs.audit.Reads as reads
 use Rattle.filing.proofs.audit.Lts as lts
 use Rattle.archive.proofs.read_head.Reads as read-head-reads
-use Rattle.filing.proofs.all_once.Reads as all-once-reads
-use Rattle.filing.proofs.check_records.Reads as check-records-reads
+use Rattle.marks.proofs.all_once.Reads as all-once-reads
+use Rattle.marks.proofs.check_records.Reads as check-records-reads
 
 abbrev claims : lts.Claims
 claims = (

@@ -8,15 +8,15 @@ use borrow.Author.Tests.{not-true, not-false}
 use Rattle.rules.specs.Archive.{linkAt, kindOf}
 use Rattle.rules.specs.Links.{isKind}
 use Rattle.rules.proofs.Owners.{new-size, new-unknown, new-linked, new-alone, new-first, new-second}
-use Rattle.filing.specs.Answers.{ownedLinks}
+use Rattle.marks.specs.Answers.{ownedLinks}
 use Rattle.filing.proofs.new_allowed.Statement.{statement}
 use Rattle.filing.proofs.new_allowed.Tie as tie
 use Rattle.filing.proofs.new_allowed.Reads as reads
 use Rattle.filing.proofs.new_allowed.Lts as lts
 use Rattle.archive.proofs.kind_of.Reads as kind-of-reads
 use Rattle.archive.proofs.link_at.Reads as link-at-reads
-use Rattle.filing.proofs.is_kind.Reads as is-kind-reads
-use Rattle.filing.proofs.owned_by.Reads as owned-by-reads
+use Rattle.marks.proofs.is_kind.Reads as is-kind-reads
+use Rattle.marks.proofs.owned_by.Reads as owned-by-reads
 
 abbrev claims : lts.Claims
 claims = (

@@ -5,12 +5,12 @@ use Rattle.rules.specs.Archive.{recordAt}
 use Rattle.rules.specs.Links.{ownedBy}
 use Rattle.rules.proofs.Chains.{record-part}
 use Rattle.rules.proofs.Owners.{offset-unused, offset-plant, offset-no-plant, offset-none, offset-first, offset-second, offset-neither}
-use Rattle.filing.specs.Answers.{ownedLinks}
+use Rattle.marks.specs.Answers.{ownedLinks}
 use Rattle.filing.proofs.offset_for.Statement.{statement}
 use Rattle.filing.proofs.offset_for.Tie as tie
 use Rattle.filing.proofs.offset_for.Reads as reads
 use Rattle.filing.proofs.offset_for.Lts as lts
-use Rattle.filing.proofs.owned_by.Reads as owned-by-reads
+use Rattle.marks.proofs.owned_by.Reads as owned-by-reads
 
 abbrev claims : lts.Claims
 claims = (owned-by-reads.Asked, owned-by-reads.Learnt)

@@ -1,4 +1,4 @@
--- `filing::check_record` meets its contract.
+-- `marks::check_record` meets its contract.
 use mathlib.Core.Path.{_≡_, refl, sym, _∙_, ap}
 use mathlib.Core.List.{List, [], _∷_, map}
 use Prim.Native.Nat.{ℕ}
@@ -9,17 +9,17 @@ use Rattle.rules.specs.Archive.{kindOf, recordAt}
 use Rattle.rules.specs.Links.{Link, link, ownedBy, standsAt}
 use Rattle.rules.specs.Audit.{linkChecked, linksChecked}
 use Rattle.rules.proofs.Chains.{record-part}
-use Rattle.filing.specs.Answers.{ownedLinks}
-use Rattle.filing.specs.Marks.{Checked}
-use Rattle.filing.proofs.AuditLaws.{checked-none, then-stops, then-goes, checked-last, RecordChecked, head-done, unknown-done, known-done}
-use Rattle.filing.proofs.check_record.Statement.{statement}
-use Rattle.filing.proofs.check_record.Tie as tie
-use Rattle.filing.proofs.check_record.Reads as reads
-use Rattle.filing.proofs.check_record.Lts as lts
+use Rattle.marks.specs.Answers.{ownedLinks}
+use Rattle.marks.specs.Marks.{Checked}
+use Rattle.marks.proofs.Laws.{checked-none, then-stops, then-goes, checked-last, RecordChecked, head-done, unknown-done, known-done}
+use Rattle.marks.proofs.check_record.Statement.{statement}
+use Rattle.marks.proofs.check_record.Tie as tie
+use Rattle.marks.proofs.check_record.Reads as reads
+use Rattle.marks.proofs.check_record.Lts as lts
 use Rattle.archive.proofs.kind_of.Reads as kind-of-reads
-use Rattle.filing.proofs.check_link.Reads as check-link-reads
-use Rattle.filing.proofs.is_kind.Reads as is-kind-reads
-use Rattle.filing.proofs.owned_by.Reads as owned-by-reads
+use Rattle.marks.proofs.check_link.Reads as check-link-reads
+use Rattle.marks.proofs.is_kind.Reads as is-kind-reads
+use Rattle.marks.proofs.owned_by.Reads as owned-by-reads
 
 abbrev claims : lts.Claims
 claims = (

@@ -1,4 +1,4 @@
--- What each answer of audit is, over plain variables: checks one after another, links, records, and the table of marks.
+-- What each check of audit answers, over plain variables: checks one after another, links, records, and the table of marks.
 use mathlib.Core.Path.{_≡_, refl, sym, _∙_, ap, subst}
 use mathlib.Core.Bool.{Bool, true, false, cond, _&&_, _||_}
 use mathlib.Core.List.{List, [], _∷_, _++_, map}
@@ -10,23 +10,21 @@ use lib.Dec.{eqb}
 use lib.ListN.{length, getD, set, length-set, length-replicate, getD-replicate}
 use lib.Seq.{getD-set-same, getD-set-other, set-getD}
 use borrow.Author.Tests.{eq-eqb, ne-eqb, eqb-true, eqb-false, lt-ltb, le-ltb}
-use Rattle.rules.specs.Outcome.{Outcome, refused, given, _>>_, require, numberOf}
+use Rattle.rules.specs.Outcome.{Outcome, refused, given, _>>_, numberOf}
 use Rattle.rules.specs.Numbers.{keep}
-use Rattle.rules.specs.Archive.{linkAt, kindOf, recordAt, plantKind, usedOf, Entry, follow}
+use Rattle.rules.specs.Archive.{linkAt, kindOf, recordAt, plantKind, Entry, follow}
 use Rattle.rules.specs.Links.{Link, link, isKind, ownedBy, linksAt, standsAt, linkPlaces, namers}
 use Rattle.rules.specs.Audit.{linkChecked, linksChecked, recordChecked, recordsChecked, namedOnce}
-use Rattle.rules.specs.Refusals.{wrongKind, notNamedOnce}
-use Rattle.rules.specs.Promises.{Audits}
+use Rattle.rules.specs.Refusals.{wrongKind}
 use Rattle.rules.proofs.Bytes.{link-of}
 use Rattle.rules.proofs.Runs.{follow-says}
-use Rattle.rules.proofs.AppendSteps.{used-within}
-use Rattle.rules.proofs.AuditSteps.{follow-number, link-zero, link-stops, link-leads, head-checked, head-links, unknown-checked, known-checked, known-links, audit-no-head, audit-stops, audit-ends}
+use Rattle.rules.proofs.AuditSteps.{follow-number, link-zero, link-stops, link-leads, head-checked, head-links, unknown-checked, known-checked, known-links}
 use denote.Enum.Declared.{tagOf, declared}
 use Rattle.archive.proofs.Link.{enum}
 use Rattle.archive.specs.declared.Link as answer
 use Rattle.archive.specs.declared.Link.the-variants as answers
 use Rattle.archive.specs.Answers.{linkAnswer, refusalOf}
-use Rattle.filing.specs.Marks.{capped, marked, tally, noMarks, markedOnce, Checked}
+use Rattle.marks.specs.Marks.{capped, marked, tally, noMarks, markedOnce, Checked}
 
 -- ---- answers to a link
 
@@ -304,7 +302,8 @@ mark-once archive used n some h =
     ∙ ap (λ (m : ℕ). raised m (length (keep (λ p. eqb (linkAt archive p) n) (linkPlaces archive used)))) (zero-mark n h))
     ∙ raised-once (length (keep (λ p. eqb (linkAt archive p) n) (linkPlaces archive used)))
 
-once-same : (archive : List ℕ) (used k : ℕ) → k ≤ 65536 → markedOnce (tally archive noMarks (linkPlaces archive used)) k ≡ namedOnce archive used k
+-- a table of all links has each record marked once just where each is named once
+pub once-same : (archive : List ℕ) (used k : ℕ) → k ≤ 65536 → markedOnce (tally archive noMarks (linkPlaces archive used)) k ≡ namedOnce archive used k
 unfolding markedOnce
 once-same archive used zero h = refl
 once-same archive used (suc k) h = rw (once-same archive used k (omega arith)) (go (eqb k 0) refl)
@@ -342,28 +341,3 @@ once-stop marks n (suc m) z f h = go (eqb n m) refl (once-stop marks n m z f)
         subst (λ (x : ℕ). false ≡ (markedOnce marks x && (eqb x 0 || eqb (getD marks x 0) 1))) (eqb-true n m i)
         (sym (rw (ne-eqb n 0 (λ e. omega arith), ne-eqb (getD marks n 0) 1 f) (and-false (markedOnce marks n))))
     go false i g = rw (← g (omega (arith, eqb-false n m i)))
-
--- ---- the whole
-
-module _ (archive : List ℕ) where
-  pub audit-unread : (n : ℕ) → usedOf archive ≡ refused n → Audits archive n
-  audit-unread n u = record { answers = ap numberOf (sym (audit-no-head archive n u)) }
-
-  module _ (used : ℕ) (u : usedOf archive ≡ given used) (later : List ℕ) (n : ℕ)
-      (checked : Checked archive (recordsChecked archive used used) (linkPlaces archive used) noMarks later n) where
-    pub audit-refused : (n ≡ 0 → ⊥) → Audits archive n
-    audit-refused h = record {
-      answers = ap numberOf (sym (audit-stops archive used u n (refused-by archive checked h)));
-    }
-
-    -- then the marks decide
-    pub audit-done : n ≡ 0 → (t : Bool) → t ≡ markedOnce later used → Audits archive (cond t 0 notNamedOnce)
-    unfolding require
-    audit-done z t e = record { answers = ap (λ (b : Bool). cond b 0 notNamedOnce) named ∙ by (namedOnce archive used used) ∙ ap numberOf (sym (audit-ends archive used u (checked .passes z))) }
-      where
-        named : t ≡ namedOnce archive used used
-        named = let w = used-within archive used u in e ∙ ap (λ (m : List ℕ). markedOnce m used) (checked .marks-are z) ∙ once-same archive used used (omega arith)
-
-        by : (b : Bool) → cond b 0 notNamedOnce ≡ numberOf (require b notNamedOnce)
-        by true = refl
-        by false = refl

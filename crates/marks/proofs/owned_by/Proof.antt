@@ -1,9 +1,9 @@
--- `filing::owned_by` meets its contract.
+-- `marks::owned_by` meets its contract.
 use mathlib.Core.Path.{sym, _∙_}
 use borrow.Author.Needs.{needs}
 use Rattle.rules.proofs.Owners.{plant-owns, measure-owns, other-owns}
-use Rattle.filing.proofs.owned_by.Statement.{statement}
-use Rattle.filing.proofs.owned_by.Tie as tie
+use Rattle.marks.proofs.owned_by.Statement.{statement}
+use Rattle.marks.proofs.owned_by.Tie as tie
 
 kind-of-requires : tie.Need-kind-of-requires
 kind-of-requires c κs = search needs

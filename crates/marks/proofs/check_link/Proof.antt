@@ -1,9 +1,9 @@
--- `filing::check_link` meets its contract.
+-- `marks::check_link` meets its contract.
 use native.Mathlib.Omega.{arith}
 use borrow.Author.Needs.{needs}
-use Rattle.filing.proofs.AuditLaws.{no-at, led, link-answered, link-marked}
-use Rattle.filing.proofs.check_link.Statement.{statement}
-use Rattle.filing.proofs.check_link.Tie as tie
+use Rattle.marks.proofs.Laws.{no-at, led, link-answered, link-marked}
+use Rattle.marks.proofs.check_link.Statement.{statement}
+use Rattle.marks.proofs.check_link.Tie as tie
 
 link-of-requires : tie.Need-link-of-requires
 link-of-requires c κs = search needs

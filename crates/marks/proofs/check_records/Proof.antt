@@ -1,11 +1,11 @@
--- `filing::check_records` meets its contract.
+-- `marks::check_records` meets its contract.
 use mathlib.Core.Path.{_≡_, refl, _∙_}
 use Prim.Native.Nat.{_-_, _≤_}
 use native.Mathlib.Omega.{arith}
 use lib.ListN.{length}
-use Rattle.filing.proofs.AuditLaws.{Passed, records-none, records-end, records-more, records-stop}
-use Rattle.filing.proofs.check_records.Statement.{statement}
-use Rattle.filing.proofs.check_records.Tie as tie
+use Rattle.marks.proofs.Laws.{Passed, records-none, records-end, records-more, records-stop}
+use Rattle.marks.proofs.check_records.Statement.{statement}
+use Rattle.marks.proofs.check_records.Tie as tie
 
 abbrev Inv-loop : tie.InvT-loop
 Inv-loop archive used marks₀ n₀ marks n = Passed archive used marks₀ n marks × (n ≤ used) × (length marks ≡ length marks₀)

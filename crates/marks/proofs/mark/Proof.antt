@@ -1,8 +1,8 @@
--- `filing::mark` meets its contract.
+-- `marks::mark` meets its contract.
 use borrow.Author.Needs.{needs}
-use Rattle.filing.proofs.AuditLaws.{mark-up, mark-stays}
-use Rattle.filing.proofs.mark.Statement.{statement}
-use Rattle.filing.proofs.mark.Tie as tie
+use Rattle.marks.proofs.Laws.{mark-up, mark-stays}
+use Rattle.marks.proofs.mark.Statement.{statement}
+use Rattle.marks.proofs.mark.Tie as tie
 
 slice-read-m : tie.Need-slice-read-m
 slice-read-m c = search needs

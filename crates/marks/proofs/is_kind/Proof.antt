@@ -1,7 +1,7 @@
--- `filing::is_kind` meets its contract.
+-- `marks::is_kind` meets its contract.
 use borrow.Author.Tests.{le-leb, lt-leb}
-use Rattle.filing.proofs.is_kind.Statement.{statement}
-use Rattle.filing.proofs.is_kind.Tie as tie
+use Rattle.marks.proofs.is_kind.Statement.{statement}
+use Rattle.marks.proofs.is_kind.Tie as tie
 
 returns : tie.Need-returns
 returns c = rw (le-leb 1 _ (c .if1 .taken))

@@ -1,12 +1,12 @@
--- `filing::all_once` meets its contract.
+-- `marks::all_once` meets its contract.
 use mathlib.Core.Bool.{true}
 use mathlib.Core.Path.{_≡_, sym, _∙_, ap}
 use Prim.Native.Nat.{_-_, _≤_}
 use native.Mathlib.Omega.{arith}
-use Rattle.filing.specs.Marks.{markedOnce}
-use Rattle.filing.proofs.AuditLaws.{once-none, once-more, once-stop}
-use Rattle.filing.proofs.all_once.Statement.{statement}
-use Rattle.filing.proofs.all_once.Tie as tie
+use Rattle.marks.specs.Marks.{markedOnce}
+use Rattle.marks.proofs.Laws.{once-none, once-more, once-stop}
+use Rattle.marks.proofs.all_once.Statement.{statement}
+use Rattle.marks.proofs.all_once.Tie as tie
 
 abbrev Inv-loop : tie.InvT-loop
 Inv-loop marks used i₀ i = (markedOnce marks i ≡ true) × (1 ≤ i) × (i ≤ used)
