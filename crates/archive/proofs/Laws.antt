@@ -5,30 +5,49 @@ use mathlib.Core.List.{List, _∷_}
 use mathlib.Core.Logic.{_⊎_, inl, inr}
 use Prim.Native.Nat.{ℕ, zero, suc, _+_, _*_, _-_, _/_, _≤_, _<_}
 use native.Mathlib.Omega.{arith}
+use mir.Syntax.{w64}
+use mir.Val.{Fits}
 use lib.ListN.{length, take, drop}
 use borrow.Author.Tests.{le-leb, lt-leb, lt-ltb, le-ltb}
 use denote.Ref.{RefT}
 use denote.Enum.Declared.{tagOf, declared}
 use Rattle.rules.specs.Outcome.{Outcome, refused, given, _>>=_, _>>_, require}
 use Rattle.rules.specs.Refusals.{notArchive}
-use Rattle.rules.specs.Archive.{linkAt, nextOf, recordAt, isWhole, isText, usedOf, Entry, follow, atPlace, chain, entryAt}
+use Rattle.rules.specs.Archive.{byteAt, linkAt, nextOf, recordAt, isWhole, isText, usedOf, Entry, follow, atPlace, chain, entryAt}
 use Rattle.rules.specs.Filing.{lastPlace, isShown, shown}
 use Rattle.rules.specs.Promises.{Shows}
 use Rattle.rules.proofs.Bytes.{link-of}
 use Rattle.rules.proofs.Chains.{chain-ends, record-part}
 use Rattle.rules.proofs.Sound.{used-head, head-room}
 use Rattle.rules.proofs.Runs.{follow-says}
-use Rattle.rules.proofs.Walks.{chain-on, chain-refused, place-last, place-on, place-missing, place-refused, placed}
+use Rattle.rules.proofs.Walks.{chain-on, chain-refused, place-last, place-on, place-missing, place-refused}
 use Rattle.archive.specs.declared.Head.{Head}
 use Rattle.archive.specs.declared.Head.the-variants as head
 use Rattle.archive.specs.declared.Link.{Link}
 use Rattle.archive.specs.declared.Link.the-variants as link
-use Rattle.archive.specs.declared.Reach.{Reach}
 use Rattle.archive.specs.declared.Reach.the-variants as reach
 use Rattle.archive.specs.declared.ChainEnd.{ChainEnd}
 use Rattle.archive.specs.declared.ChainEnd.the-variants as chainEnd
 use Rattle.archive.specs.Answers.{headAnswer, linkAnswer, reachAnswer, endAnswer, refusalOf}
 use Rattle.archive.proofs.Link.{enum}
+
+-- ---- four bytes
+
+pub four-within : {at size : ℕ} → at + 4 ≤ size → (at < size) × (at + 1 < size) × (at + 2 < size) × (at + 3 < size)
+four-within h = omega arith
+
+module _ {a b c d : ℕ} (ha : a < 256) (hb : b < 256) (hc : c < 256) (hd : d < 256) where
+  pub four-small : a + 256 * b + 65536 * c + 16777216 * d < 4294967296
+  four-small = omega arith
+
+  -- the products and sums on the way
+  pub four-fit : Fits w64 (256 * b) × Fits w64 (a + 256 * b) × Fits w64 (65536 * c) × Fits w64 (a + 256 * b + 65536 * c) × Fits w64 (16777216 * d) × Fits w64 (a + 256 * b + 65536 * c + 16777216 * d)
+  four-fit = (record { fits = omega arith }, record { fits = omega arith }, record { fits = omega arith }, record { fits = omega arith }, record { fits = omega arith }, record { fits = omega arith })
+
+pub four-are : (r : List ℕ) (at : ℕ) {a b c d : ℕ} → a ≡ byteAt r at → b ≡ byteAt r (at + 1) → c ≡ byteAt r (at + 2) → d ≡ byteAt r (at + 3)
+    → a + 256 * b + 65536 * c + 16777216 * d ≡ linkAt r at
+unfolding linkAt
+four-are r at ha hb hc hd = omega arith
 
 -- ---- the head
 
@@ -83,6 +102,9 @@ module _ (a : List ℕ) where
 
 -- ---- the answer to a link
 
+pub answer-end : {l : ℕ} (o : Outcome Entry) → l ≡ 0 → link.End ≡ linkAnswer l o
+answer-end {l} o z = rw z
+
 pub answer-refused : (l : ℕ) (o : Outcome Entry) (n : ℕ) → (l ≡ 0 → ⊥) → o ≡ refused n → link.Refused n ≡ linkAnswer l o
 answer-refused zero o n z e = absurd (z refl)
 answer-refused (suc l) o n z e = rw e
@@ -120,6 +142,10 @@ no-at link.End w = tt
 no-at (link.Refused n) w = tt
 
 -- ---- a step of a walk, by the answer to the link at hand
+
+-- a link on, a walk is nearer to the used records' end
+pub link-nearer : {last n used : ℕ} → last < n → n < used → used - n < used - last
+link-nearer rises below = omega arith
 
 module _ (archive : List ℕ) (used kind holder l : ℕ) where
   -- what an answer At n says: n can be followed, links rise, and the record lies in the archive's used part
@@ -195,29 +221,6 @@ module _ (archive : List ℕ) (used kind missing place holder l : ℕ) where
       → atPlace archive used kind missing place holder l ≡ atPlace archive used kind missing (suc (place - 1)) holder l
   place-starts z = let s : suc (place - 1) ≡ place = omega arith in rw s
 
-  -- what an answer At n links says
-  pub record Reached (n links : ℕ) : Type 0 where
-    pub is : atPlace archive used kind missing place holder l ≡ given (entryAt archive n)
-    pub counted : links ≡ place
-    pub far : holder + place ≤ n
-    pub below : n < used
-
-  module _ (answer : Reach) (a : answer ≡ reachAnswer place (atPlace archive used kind missing place holder l)) where
-    pub reached : (n links : ℕ) → answer ≡ reach.At n links → Reached n links
-    reached n links t = go (atPlace archive used kind missing place holder l) refl a
-      where
-        go : (o : Outcome Entry) → atPlace archive used kind missing place holder l ≡ o → answer ≡ reachAnswer place o → Reached n links
-        go (refused k) f b = let z : _≡_ {A = ℕ} 0 1 = cc in absurd (omega arith)
-        go (given e) f b =
-            let i : e .number ≡ n = cc in
-            let p = placed archive used kind missing place holder l e f in
-            record {
-              is = f ∙ ap given (p .is ∙ ap (entryAt archive) i);
-              counted = cc;
-              far = omega arith;
-              below = omega arith;
-            }
-
 -- ---- to the end
 
 -- the answer of a walk that has followed so many links and stands before the link at this place
@@ -254,22 +257,6 @@ module _ (archive : List ℕ) (used kind holder l place links : ℕ) where
 
   pub end-done : l ≡ 0 → chainEnd.At place links ≡ endFrom place links (chain archive used kind holder l)
   end-done z = let s : links + 0 ≡ links = omega arith in rw (chain-ends archive used kind holder l z, s)
-
-module _ (place : ℕ) (o : Outcome (List Entry)) where
-  -- what an answer At last links says
-  pub record Ended (last links : ℕ) : Type 0 where
-    pub entries : List Entry
-    pub is : o ≡ given entries
-    pub stands : last ≡ lastPlace place entries
-    pub counted : links ≡ length entries
-
-  module _ (answer : ChainEnd) (a : answer ≡ endAnswer place o) where
-    pub ended : (last links : ℕ) → answer ≡ chainEnd.At last links → Ended last links
-    ended last links t = go o refl a
-      where
-        go : (x : Outcome (List Entry)) → o ≡ x → answer ≡ endAnswer place x → Ended last links
-        go (refused k) f b = let z : _≡_ {A = ℕ} 0 1 = cc in absurd (omega arith)
-        go (given es) f b = record { entries = es; is = f; stands = cc; counted = cc }
 
 -- ---- show
 

@@ -3,7 +3,6 @@ use mathlib.Core.Path.{_≡_, refl, sym, _∙_, ap, subst}
 use mathlib.Core.Bool.{Bool, true, false, cond, _&&_}
 use mathlib.Core.List.{List, [], _∷_, map}
 use Prim.Native.Nat.{ℕ, suc, _*_, _≤_, _<_}
-use native.Mathlib.Nat.{suc-mul}
 use native.Mathlib.Omega.{arith}
 use borrow.Author.Tests.{eqb-true}
 use lib.Dec.{ltb→lt, leb→le}
@@ -25,7 +24,8 @@ use Rattle.rules.proofs.Inversion.{Holds, holds-refused, holds-bind, holds-requ
 use Rattle.rules.proofs.Ints.{under, parts-eq, orZero-add, under-add, mag-parts}
 use Rattle.rules.proofs.Ranges.{within-natural, within-signed}
 use Rattle.rules.proofs.Sound.{both}
-use Rattle.place.proofs.Laws.{nominal-is}
+use Rattle.rules.proofs.Lists.{all-passed, all-weaker, sum-low}
+use Rattle.terms.proofs.Laws.{nominal-is}
 use Rattle.energy.specs.declared.reference.Reference.{Reference}
 use Rattle.energy.specs.References.{meaning, Bounded}
 use Rattle.energy.proofs.References.{power-small}
@@ -56,10 +56,6 @@ module _ (o : Outcome Basis) (r : Based) (a : r ≡ basedAnswer o) where
 -- ---- lists
 
 module _ {A : Type 0} where
-  all-passed : (p : A → Bool) (xs : List A) → all p xs ≡ true → All (λ x. p x ≡ true) xs
-  all-passed p [] e = none
-  all-passed p (x ∷ xs) e = let b = both (p x) (all p xs) e in more (b .0) (all-passed p xs (b .1))
-
   kept : (p test : A → Bool) (xs : List A) → all p xs ≡ true → All (λ x. (test x ≡ true) × (p x ≡ true)) (keep test xs)
   kept p test [] e = none
   kept p test (x ∷ xs) e = let b = both (p x) (all p xs) e in go (test x) refl (b .0) (kept p test xs (b .1))
@@ -69,17 +65,9 @@ module _ {A : Type 0} where
       go true f h r = more (f, h) r
       go false f h r = r
 
-  all-weaker : {P Q : A → Type 0} (xs : List A) → ((x : A) → P x → Q x) → All P xs → All Q xs
-  all-weaker [] f none = none
-  all-weaker (x ∷ xs) f (more h hs) = more (f x h) (all-weaker xs f hs)
-
   all-mapped : {B : Type 0} {P : B → Type 0} (f : A → B) (xs : List A) → All (λ x. P (f x)) xs → All P (map f xs)
   all-mapped f [] none = none
   all-mapped f (x ∷ xs) (more h hs) = more h (all-mapped f xs hs)
-
-  sum-low : (f : A → ℕ) (top : ℕ) (xs : List A) → All (λ x. f x ≤ top) xs → sum (map f xs) ≤ length xs * top
-  sum-low f top [] none = omega arith
-  sum-low f top (x ∷ xs) (more h hs) = omega (arith, sum-low f top xs hs, suc-mul (length xs) top)
 
 keep-length : (test : Entry → Bool) (es : List Entry) → length (map (λ e. beforeOf (e .bytes)) (keep test es)) ≤ length es
 keep-length test [] = omega arith
@@ -184,11 +172,10 @@ unfolding solarBasis
 solar-held points xs links few =
     holds-require _ 9 _ (λ r. holds-require _ 11 _ (λ n. holds-require _ 12 _ (λ b. holds-given _ (all-held points xs _ (passes r) few refl (ltb→lt 0 _ b)))))
 
-befores-few : (archive : List ℕ) (place : Place) → Holds (λ entries. length (marked entries) ≤ 96) (beforesOf archive place)
+pub befores-few : (archive : List ℕ) (place : Place) → Holds (λ entries. length entries ≤ 96) (beforesOf archive place)
 unfolding beforesOf
 befores-few archive place =
-    holds-bind _ _ (λ entries e. holds-require _ 8 _ (λ r. holds-require _ 9 _ (λ u.
-    holds-given _ (omega (arith, leb→le (length entries) 96 r, keep-length (λ e. isMarked (e .bytes)) entries)))))
+    holds-bind _ _ (λ entries e. holds-require _ 8 _ (λ r. holds-require _ 9 _ (λ u. holds-given _ (leb→le (length entries) 96 r))))
 
 -- ---- every pairing
 
@@ -210,7 +197,9 @@ module _ (archive : List ℕ) (place : Place) (allowed : plantAllowed (place .pl
       subst (λ ps. Holds (HeldBy ps) (windBasis (nominalPower (place .plant .bytes)) qs entries)) (same-given f e)
       (wind-held (nominalPower (place .plant .bytes)) nominal-low qs (points-low archive place .of qs f) entries)))
   basis-held wind pauschal e = pauschal-held points archive place
-  basis-held solar spitz e = holds-bind _ _ (λ entries f. solar-held points (marked entries) (length entries) (befores-few archive place .of entries f))
+  basis-held solar spitz e =
+      holds-bind _ _ (λ entries f. solar-held points (marked entries) (length entries)
+      (omega (arith, befores-few archive place .of entries f, keep-length (λ e. isMarked (e .bytes)) entries)))
   basis-held solar pauschal e = holds-given _ (record { is = refl; bounded = record { is = refl; low = nominal-low } })
   basis-held other spitz e = holds-given _ (record { is = refl; bounded = tt })
   basis-held other pauschal e = pauschal-held points archive place

@@ -1,6 +1,6 @@
 -- The rule book's basis from where a walk stands: what is gathered so far, and what the rest of the chain adds.
 use mathlib.Core.Path.{_≡_, refl, sym, _∙_, ap, subst}
-use mathlib.Core.Bool.{Bool, true, false, cond, _&&_}
+use mathlib.Core.Bool.{Bool, true, false, cond, _&&_, and-false}
 use mathlib.Core.List.{List, [], _∷_, map}
 use Prim.Native.Nat.{ℕ, suc, _+_, _*_, _-_}
 use native.Mathlib.Omega.{arith}
@@ -46,10 +46,6 @@ rest All points links s xs =
       given (record { reference = onIrradiance (subℕ (s .a) (powerBias * s .used) +ℤ totalMeasured xs) b; links = links })
 
 -- ---- one more marked before-quarter
-
-and-false : (t : Bool) → (t && false) ≡ false
-and-false true = refl
-and-false false = refl
 
 -- nothing is tested where none is needed
 none-needed : (test : Before → Bool) (xs : List Before) → upToUsed test 0 xs ≡ []
@@ -183,7 +179,7 @@ module _ (purpose : Purpose) (points : List Point) (extra : ℕ) where
 
   module _ (w : Walk) (e : Entry) (es : List Entry) where
     more : w .count + suc (length es) ≡ w .count + 1 + length es
-    more = omega arith
+    more = one-more (w .count) (length es)
 
     from-taken : w .fine ≡ true → markAllowed (e .bytes) ≡ true → isMarked (e .bytes) ≡ true → (o : Outcome Sums) → taken purpose points (w .sums) (beforeOf (e .bytes)) ≡ o → Nine o
         → from w (e ∷ es) ≡ from (withTaken w o) es

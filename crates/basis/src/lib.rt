@@ -260,7 +260,7 @@ pub fn wind(archive: &[u8], place: Place, curve: Curve, table: &[u64], links: u6
         → r ≡ basedAnswer (windOf (now (archive .entry)) (meant (now (archive .entry)) place) points)) ⌝ }
 {
     let i = place.plant as usize;
-    let pn = place::terms::nominal_power(&archive[32 * i..32 * i + 32]);
+    let pn = terms::nominal_power(&archive[32 * i..32 * i + 32]);
     match gather(
         archive,
         place,

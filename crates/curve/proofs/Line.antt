@@ -4,6 +4,8 @@ use mathlib.Core.Logic.{_⊎_, ⊎-elim}
 use Prim.Native.Nat.{ℕ, _+_, _*_, _-_, _/_, _%_, _≤_, _<_}
 use native.Mathlib.Nat.{mul-add, add-mul, mul-comm, mul-le-mul-right, lt-of-mul-lt-mul-right, div-eq-of-lt-le, div-le-of-le-mul, div-le-self, div-add-mod', mod-lt}
 use native.Mathlib.Omega.{arith}
+use mir.Syntax.{w64}
+use mir.Val.{Fits}
 use Rattle.rules.specs.Terms.{Point}
 use Rattle.rules.specs.Reference.{lineAt}
 use Rattle.curve.specs.Steps.{InRange}
@@ -103,6 +105,17 @@ pub record Turned (a b : Point) (v power rest : ℕ) : Type 0 where
   pub room : 1000000000 ≤ power + stepOf a b
   pub next : OnLine a b (v + 1) (power + stepOf a b - 1000000000) rest
 
+-- one speed on
+module _ {v : ℕ} where
+  pub on-from : {start : ℕ} → start ≤ v → start ≤ v + 1
+  on-from h = omega arith
+
+  pub on-until : {end : ℕ} → v < end → v + 1 ≤ end
+  on-until h = omega arith
+
+  pub on-nearer : {end : ℕ} → v < end → end - (v + 1) < end - v
+  on-nearer h = omega arith
+
 module _ {a b : Point} (p : Piece a b) where
   pub part-low : partOf a b < b .speed - a .speed
   part-low = mod-lt (changeOf a b) (omega arith)
@@ -110,9 +123,18 @@ module _ {a b : Point} (p : Piece a b) where
   pub step-low : stepOf a b ≤ 1001000000000
   step-low = omega (arith, div-le-self (changeOf a b) (b .speed - a .speed))
 
+  pub rest-fits : {v power rest : ℕ} → OnLine a b v power rest → Fits w64 (rest + partOf a b)
+  rest-fits l = record { fits = omega (arith, l .part, part-low, p .right .low-speed) }
+
+  pub step-fits : {v power rest : ℕ} → Turned a b v power rest → Fits w64 (power + stepOf a b)
+  step-fits t = record { fits = omega (arith, t .low, step-low) }
+
   module _ (v power rest : ℕ) (from : a .speed ≤ v) (h : v < b .speed) (l : OnLine a b v power rest) where
     pub power-low : power ≤ 1000000000
     power-low = omega (arith, line-power a b v power rest l, line-low a b v from h 1000000000 (p .left .low-power) (p .right .low-power))
+
+    pub power-fits : Fits w64 (power + 1)
+    power-fits = record { fits = omega (arith, power-low) }
 
     pub line-turn : (power′ rest′ : ℕ)
         → ((b .speed - a .speed ≤ rest + partOf a b) × (power′ ≡ power + 1) × (rest′ ≡ rest + partOf a b - (b .speed - a .speed)))

@@ -29,18 +29,7 @@ use Rattle.filing.specs.declared.Place.{Place}
 use Rattle.filing.specs.declared.Place.the-variants as place
 use Rattle.filing.specs.Answers.{Places}
 
--- ---- answers of the archive's readers taken apart
-
-abbrev pub headOutcome : Head → Outcome ℕ
-headOutcome (head.Used used) = given used
-headOutcome (head.Refused n) = refused n
-
-pub head-says : (x : Head) (o : Outcome ℕ) → x ≡ headAnswer o → o ≡ headOutcome x
-head-says x o e = go o ∙ ap headOutcome (sym e)
-  where
-    go : (o : Outcome ℕ) → o ≡ headOutcome (headAnswer o)
-    go (refused n) = refl
-    go (given used) = refl
+-- ---- the answer of a walk to the end of a chain taken apart
 
 -- a chain refused, or its records, with the place of the last link
 abbrev pub Ended : ℕ → Outcome (List Entry) → ChainEnd → Type 0

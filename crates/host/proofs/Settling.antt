@@ -8,7 +8,6 @@ use borrow.Author.Tests.{le-leb, lt-leb, ne-eqb}
 use lib.Dec.{eqb, leb}
 use lib.IntN.{pos}
 use lib.ListN.{length, take, drop}
-use lib.Seq.{length-take-le}
 use Rattle.rules.specs.Outcome.{Outcome, refused, given, _>>=_, _>>_, require, numberOf}
 use Rattle.rules.specs.Refusals.{noRoom, settleRefusals}
 use Rattle.rules.specs.Numbers.{sumℤ}
@@ -22,7 +21,7 @@ use Rattle.settle.specs.declared.Measure.{Measure}
 use Rattle.settle.specs.declared.Prepared.{Prepared}
 use Rattle.settle.specs.declared.Prepared.the-variants as prepared
 use Rattle.settle.specs.Answers.{Stands, Prepares}
-use Rattle.settle.proofs.Laws.{not-ready}
+use Rattle.settle.proofs.Laws.{in-sheet, sheet-length, not-ready}
 use Rattle.host.proofs.Numbers.{number-small}
 
 module _ (archive : List ℕ) (p k : ℕ) (list result : List ℕ) where
@@ -57,16 +56,9 @@ module _ (archive : List ℕ) (p k : ℕ) (list result : List ℕ) where
     result-wrong h f =
         no-room (rw (le-leb (countOf (s .settlement)) (length list / 8) (omega (arith, s .counted))) (ne-eqb (length result) 24 f))
 
-    -- a sheet that has a place for each quarter that the list can take
     module _ (room : min (length list / 8) 2976 ≤ length sheet) (h : m .count ≤ length list / 8) where
-      pub in-sheet : m .count ≤ length sheet
-      in-sheet = omega (arith, s .few)
-
-      pub sheet-length : length (take (m .count) sheet) ≡ m .count
-      sheet-length = length-take-le (m .count) sheet in-sheet
-
       pub list-long : 8 * length (take (m .count) sheet) ≤ length list
-      list-long = omega (arith, sheet-length)
+      list-long = omega (arith, sheet-length s room h)
 
       -- the amounts and the three results written
       pub all-written : length result ≡ 24 → (laterList laterResult : List ℕ) (total bitsOfTotal : ℕ)
@@ -80,12 +72,12 @@ module _ (archive : List ℕ) (p k : ℕ) (list result : List ℕ) where
           by-outcome (given (s .settlement)) laterList laterResult 0
           (tested true (rw (le-leb (countOf (s .settlement)) (length list / 8) (omega (arith, s .counted)), n)))
           refl
-          (l ∙ rw (sheet-length, s .counted, s .amounts-are in-sheet))
+          (l ∙ rw (sheet-length s room h, s .counted, s .amounts-are (in-sheet s room h)))
           (r ∙ results)
         where
           results : doubleWord (m .count) ++ (doubleWord bitsOfTotal ++ doubleWord (m .links))
               ≡ encoded (pos (countOf (s .settlement)) ∷ sumℤ (s .settlement .amounts) ∷ pos (s .settlement .links) ∷ [])
-          results = rw (b, t, s .counted, s .amounts-are in-sheet, s .links-are, append-nil)
+          results = rw (b, t, s .counted, s .amounts-are (in-sheet s room h), s .links-are, append-nil)
 
 -- ---- by the answer of the tests
 

@@ -1,13 +1,12 @@
 -- What each check of audit answers, over plain variables: checks one after another, links, records, and the table of marks.
 use mathlib.Core.Path.{_≡_, refl, sym, _∙_, ap, subst}
-use mathlib.Core.Bool.{Bool, true, false, cond, _&&_, _||_}
+use mathlib.Core.Bool.{Bool, true, false, cond, _&&_, _||_, and-false, or-true}
 use mathlib.Core.List.{List, [], _∷_, _++_, map}
-use mathlib.Core.Logic.{_⊎_, inl, inr}
 use Prim.Native.Nat.{ℕ, zero, suc, _+_, _*_, _≤_, _<_}
 use native.Mathlib.Omega.{arith}
 use native.Mathlib.Numerals.{add-one}
 use lib.Dec.{eqb}
-use lib.ListN.{length, getD, set, length-set, length-replicate, getD-replicate}
+use lib.ListN.{length, getD, set, replicate, length-set, length-replicate, getD-replicate}
 use lib.Seq.{getD-set-same, getD-set-other, set-getD}
 use borrow.Author.Tests.{eq-eqb, ne-eqb, eqb-true, eqb-false, lt-ltb, le-ltb}
 use Rattle.rules.specs.Outcome.{Outcome, refused, given, _>>_, numberOf}
@@ -19,26 +18,14 @@ use Rattle.rules.specs.Refusals.{wrongKind}
 use Rattle.rules.proofs.Bytes.{link-of}
 use Rattle.rules.proofs.Runs.{follow-says}
 use Rattle.rules.proofs.AuditSteps.{follow-number, link-zero, link-stops, link-leads, head-checked, head-links, unknown-checked, known-checked, known-links}
-use denote.Enum.Declared.{tagOf, declared}
-use Rattle.archive.proofs.Link.{enum}
+use Rattle.rules.proofs.Sound.{fine}
+use Rattle.archive.proofs.Laws.{NoAt}
 use Rattle.archive.specs.declared.Link as answer
 use Rattle.archive.specs.declared.Link.the-variants as answers
 use Rattle.archive.specs.Answers.{linkAnswer, refusalOf}
 use Rattle.marks.specs.Marks.{capped, marked, tally, noMarks, markedOnce, Checked}
 
--- ---- answers to a link
-
--- the answers that lead to no record
-pub no-at : (x : answer.Link) → (tagOf (declared enum) x ≡ 1) ⊎ (tagOf (declared enum) x ≡ 2) → (m : ℕ) → x ≡ answers.At m → ⊥
-no-at (answers.At k) (inl t) m e = omega arith
-no-at (answers.At k) (inr t) m e = omega arith
-no-at answers.End t m e = let z : _≡_ {A = ℕ} 0 1 = cc in omega arith
-no-at (answers.Refused k) t m e = let z : _≡_ {A = ℕ} 0 1 = cc in omega arith
-
 -- ---- checks one after another
-
-abbrev fine : Outcome (Unit {0})
-fine = given tt
 
 module _ (archive : List ℕ) where
   pub checked-refused : (o : Outcome (Unit {0})) (places marks later : List ℕ) (n : ℕ) → o ≡ refused n → (n ≡ 0 → ⊥) → Checked archive o places marks later n
@@ -129,7 +116,7 @@ module _ (archive : List ℕ) where
             number a r = cc
 
     -- zero, or refused
-    pub link-answered : (marks : List ℕ) (r : ℕ) → r ≡ refusalOf x 0 → ((m : ℕ) → x ≡ answers.At m → ⊥) → LinkChecked used n at to marks marks r
+    pub link-answered : (marks : List ℕ) (r : ℕ) → r ≡ refusalOf x 0 → NoAt x → LinkChecked used n at to marks marks r
     unfolding tally
     link-answered marks r number none =
         subst (LinkChecked used n at to marks marks) (sym (number ∙ ap (λ a. refusalOf a 0) says)) (go v (follow archive used to n v) refl refl says)
@@ -146,7 +133,7 @@ module _ (archive : List ℕ) where
             checked-refused (linkChecked archive used n (link at to)) (standsAt n (link at to) ∷ []) marks marks k
             (link-stops archive used n (link at to) k (λ z. omega (arith, i, stands)) (ap (follow archive used to n) (sym stands) ∙ f))
             (follow-number archive used to n v k f)
-        go (suc w) (given k) i f q = absurd (none (k .number) q)
+        go (suc w) (given k) i f q = absurd (subst NoAt q none)
 
     -- one that leads to a record, which is marked
     pub link-marked : (marks later : List ℕ) (m : ℕ) → x ≡ answers.At m → later ≡ marked marks m → LinkChecked used n at to marks later 0
@@ -286,9 +273,16 @@ raised-once zero = refl
 raised-once (suc zero) = refl
 raised-once (suc (suc k)) = ap (λ (m : ℕ). eqb m 1) (two-stays k) ∙ sym (ne-eqb (suc (suc k)) 1 (λ e. omega arith))
 
+-- of the table as the code makes it: by a law, since to count 65,536 places takes long
+pub marks-long : length (replicate {A = ℕ} 65536 0) ≡ 65536
+marks-long = length-replicate {A = ℕ} 65536 0
+
 pub no-marks : length noMarks ≡ 65536
 unfolding noMarks
-no-marks = length-replicate {A = ℕ} 65536 0
+no-marks = marks-long
+
+pub marks-enough : {used size : ℕ} → used < 65536 → 65536 ≡ size → used ≤ size
+marks-enough few e = omega arith
 
 zero-mark : (n : ℕ) → n < 65536 → getD noMarks n 0 ≡ 0
 unfolding noMarks
@@ -322,20 +316,12 @@ once-none marks = refl
 pub once-more : (marks : List ℕ) (n : ℕ) → markedOnce marks n ≡ true → getD marks n 0 ≡ 1 → markedOnce marks (n + 1) ≡ true
 unfolding markedOnce
 once-more marks n e f = rw (add-one n, e, eq-eqb (getD marks n 0) 1 f) (or-true (eqb n 0))
-  where
-    or-true : (t : Bool) → (t || true) ≡ true
-    or-true true = refl
-    or-true false = refl
 
 pub once-stop : (marks : List ℕ) (n m : ℕ) → 1 ≤ n → (getD marks n 0 ≡ 1 → ⊥) → n < m → false ≡ markedOnce marks m
 unfolding markedOnce
 once-stop marks n zero z f h = absurd (omega arith)
 once-stop marks n (suc m) z f h = go (eqb n m) refl (once-stop marks n m z f)
   where
-    and-false : (t : Bool) → (t && false) ≡ false
-    and-false true = refl
-    and-false false = refl
-
     go : (t : Bool) → eqb n m ≡ t → (n < m → false ≡ markedOnce marks m) → false ≡ (markedOnce marks m && (eqb m 0 || eqb (getD marks m 0) 1))
     go true i g =
         subst (λ (x : ℕ). false ≡ (markedOnce marks x && (eqb x 0 || eqb (getD marks x 0) 1))) (eqb-true n m i)

@@ -1,24 +1,21 @@
 -- What a place of the code is and says, over plain variables.
-use mathlib.Core.Path.{_≡_, refl, sym, _∙_, ap, ap₂, subst}
-use mathlib.Core.Bool.{Bool, true, false, _&&_}
+use mathlib.Core.Path.{_≡_, refl, sym, _∙_, ap, subst}
+use mathlib.Core.Bool.{Bool, true, false}
 use mathlib.Core.List.{List}
 use Prim.Native.Nat.{ℕ, _+_, _*_, _-_, _≤_, _<_}
 use native.Mathlib.Omega.{arith}
-use lib.Dec.{leb}
-use lib.IntN.{ℤ, pos}
 use lib.ListN.{take, drop}
 use Rattle.rules.specs.Outcome.{Outcome, refused, given, _>>=_, _>>_, require}
 use Rattle.rules.specs.Refusals.{notArchive, noPlant, noMeasure, badPlant, badMeasure}
-use Rattle.rules.specs.Numbers.{orZero}
-use Rattle.rules.specs.Archive.{byteAt, fieldAt, recordAt, usedOf, Entry, entryAt, atPlace, plantKind, measureKind}
-use Rattle.rules.specs.Terms.{isNominalPower, nominalPower, plantAllowed, measureAllowed}
+use Rattle.rules.specs.Archive.{recordAt, usedOf, Entry, entryAt, atPlace, plantKind, measureKind}
+use Rattle.rules.specs.Terms.{plantAllowed, measureAllowed}
 use Rattle.rules.specs.Settle as settle
 use Rattle.rules.specs.Settle.{placeOf}
 use Rattle.rules.proofs.Chains.{record-part}
-use Rattle.rules.proofs.Ranges.{within-natural}
 use Rattle.rules.proofs.Refusals.{used-refused}
+use Rattle.rules.proofs.Inversion.{given-inj}
 use Rattle.rules.proofs.Walks as walks
-use Rattle.rules.proofs.Sound.{both, bind-both, required, used-head, head-room}
+use Rattle.rules.proofs.Sound.{bind-both, required, used-head, head-room}
 use Rattle.archive.specs.Answers.{reachAnswer}
 use Rattle.archive.specs.declared.Reach.{Reach}
 use Rattle.archive.specs.declared.Reach.the-variants as reach
@@ -26,23 +23,6 @@ use Rattle.place.specs.declared.Place.{Place}
 use Rattle.place.specs.declared.Placed.{Placed}
 use Rattle.place.specs.declared.Placed.the-variants.{At, Refused}
 use Rattle.place.specs.Places.{meant, Lies, numbersOf, placedAnswer, reachRefusal, plantAt, measureAt, admitted, placeUnder}
-
--- ---- Pn
-
--- of a plant that refusal 6 lets pass
-module _ (plant : List ℕ) (allowed : plantAllowed plant ≡ true) (z : ℤ) (is : z ≡ fieldAt plant 16) where
-  in-range : (z ≡ pos (orZero z)) × (100000 ≤ orZero z) × (orZero z ≤ 1000000000)
-  unfolding plantAllowed
-  in-range =
-      within-natural 100000 1000000000 z
-      (ap isNominalPower is
-      ∙ both (leb 1 (byteAt plant 1) && leb (byteAt plant 1) 3 && (leb 1 (byteAt plant 2) && leb (byteAt plant 2) 2)) _ allowed .1)
-
-  pub nominal-natural : z ≡ pos (orZero z)
-  nominal-natural = in-range .0
-
-  pub nominal-is : (n : ℕ) → n ≡ orZero z → (n ≡ nominalPower plant) × (n ≤ 1000000000)
-  nominal-is n e = (e ∙ ap orZero is, let r = in-range in omega arith)
 
 -- ---- the answer of a walk to a place
 
@@ -147,7 +127,6 @@ module _ (archive : List ℕ) (p k : ℕ) where
     plant-reached : walks.Placed archive (place .used) plantKind 0 p (place .plant)
     measure-reached : walks.Placed archive (place .used) measureKind (place .plant .number) k (place .measure)
     plant-allowed : plantAllowed (place .plant .bytes) ≡ true
-    measure-allowed : measureAllowed (place .plant .bytes) (place .measure .bytes) ≡ true
     count : place .links ≡ p + k
 
   module _ (place : settle.Place) (e : placeOf archive p k ≡ given place) where
@@ -159,17 +138,13 @@ module _ (archive : List ℕ) (p k : ℕ) where
         let c = bind-both (measureAt archive (a .0) (b .0) k) _ (b .2) in
         let d = required _ badPlant _ (c .2) in
         let f = required _ badMeasure _ (d .1) in
-        subst Parts (same (f .1)) (record {
+        subst Parts (given-inj (f .1)) (record {
           head = a .1;
           plant-reached = walks.placed archive (a .0) plantKind noPlant p 0 _ (b .0) (b .1);
           measure-reached = walks.placed archive (a .0) measureKind noMeasure k (b .0 .number) _ (c .0) (c .1);
           plant-allowed = d .0;
-          measure-allowed = f .0;
           count = refl;
         })
-      where
-        same : {x y : settle.Place} → given x ≡ given y → x ≡ y
-        same q = cc
 
     -- its records are the archive's own, and used ones
     pub found : (place ≡ meant archive (numbersOf place)) × Lies archive (numbersOf place)
@@ -187,9 +162,6 @@ module _ (archive : List ℕ) (p k : ℕ) where
         whole a b f g = cc
 
     -- links rise, so numbers are no smaller than the links followed to them
-    pub found-rises : place .plant .number < place .measure .number
-    found-rises = let m = parts .measure-reached in omega arith
-
     pub found-links : place .links ≤ place .measure .number
     found-links = let c = parts .count in let a = parts .plant-reached in let m = parts .measure-reached in omega arith
 
@@ -215,8 +187,6 @@ module _ (archive : List ℕ) (p k : ℕ) where
     pub is : placeOf archive p k ≡ given (meant archive q)
     pub lies : Lies archive q
     pub plant-allowed : plantAllowed (recordAt archive (q .plant)) ≡ true
-    pub measure-allowed : measureAllowed (recordAt archive (q .plant)) (recordAt archive (q .measure)) ≡ true
-    pub rises : q .plant < q .measure
     pub links-few : q .links ≤ q .measure
 
   pub located : (answer : Placed) (q : Place) → answer ≡ placedAnswer (placeOf archive p k) → answer ≡ At q → Located q
@@ -232,8 +202,5 @@ module _ (archive : List ℕ) (p k : ℕ) where
             is = e ∙ ap given (f .0);
             lies = f .1;
             plant-allowed = ap (λ (x : Entry). plantAllowed (x .bytes)) (sym (d .plant-reached .is)) ∙ d .plant-allowed;
-            measure-allowed =
-                ap₂ (λ (x y : Entry). measureAllowed (x .bytes) (y .bytes)) (sym (d .plant-reached .is)) (sym (d .measure-reached .is)) ∙ d .measure-allowed;
-            rises = found-rises archive p k place e;
             links-few = found-links archive p k place e;
           }

@@ -11,8 +11,6 @@ use archive::Reach;
 use rules::kind;
 use rules::refusal;
 
-pub mod terms;
-
 // U, the numbers of plant and measure, and the links followed to them.
 pub struct Place {
     pub used: u64,

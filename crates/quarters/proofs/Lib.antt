@@ -1,2 +1,1 @@
-pub mod Exacts
 pub mod Walks

@@ -1,11 +1,13 @@
 -- A walk over a measure's quarters, step by step, and what it has gathered at the chain's end.
 use mathlib.Core.Path.{_≡_, refl, sym, _∙_, ap}
-use mathlib.Core.Bool.{Bool, true, false, _&&_}
+use mathlib.Core.Bool.{Bool, true, false, _&&_, and-true}
 use mathlib.Core.List.{List, [], _∷_, _++_, map, append-nil}
 use Prim.Native.Nat.{ℕ, suc, _+_, _*_, _-_, _/_, _^_, _≤_, _<_}
 use native.Mathlib.Numerals.{add-one}
-use native.Mathlib.Nat.{suc-mul, mul-le-mul-right, div-le-of-le-mul}
+use native.Mathlib.Nat.{mul-le-mul-right, div-le-of-le-mul}
 use native.Mathlib.Omega.{arith}
+use mir.Syntax.{w64}
+use mir.Val.{Fits}
 use borrow.Author.Tests.{leb-true}
 use lib.Dec.{leb}
 use lib.ListN.{length, take, drop, set, length-set}
@@ -14,7 +16,7 @@ use Rattle.rules.specs.declared.Direction.{Direction}
 use Rattle.rules.specs.declared.Execution.{Execution}
 use Rattle.rules.specs.Outcome.{Outcome, refused, given, _>>=_, _>>_, require}
 use Rattle.rules.specs.Refusals.{badCount, outOfRange}
-use Rattle.rules.specs.Numbers.{all, sum, mapFrom}
+use Rattle.rules.specs.Numbers.{all, mapFrom}
 use Rattle.rules.specs.Archive.{recordAt, nextOf, Entry, chain, quarterKind, firstQuarter, entryAt}
 use Rattle.rules.specs.Terms.{Point, Quarter, quarterOf, directionOf, executionOf}
 use Rattle.rules.specs.Reference as book
@@ -23,6 +25,7 @@ use Rattle.rules.specs.Settle as settle
 use Rattle.rules.specs.Settle.{Basis, quarterChain, quartersRead, limitReadable, referenceReadable, readable, quartersOf}
 use Rattle.rules.proofs.Chains.{chain-ends, record-part}
 use Rattle.rules.proofs.Inversion.{same-given}
+use Rattle.rules.proofs.Lists.{map-from-length, all-passed, all-weaker, sum-low}
 use Rattle.rules.proofs.Sound.{both}
 use Rattle.rules.proofs.Folds.{gathered, gatheredFrom, gather-turn, gather-refused, gather-done}
 use Rattle.archive.proofs.Laws.{Met, chain-met}
@@ -31,12 +34,12 @@ use Rattle.place.specs.Places.{meant}
 use Rattle.curve.specs.declared.Curve.{Curve}
 use Rattle.energy.specs.declared.reference.Reference.{Reference}
 use Rattle.energy.specs.References.{meaning, Bounded}
-use Rattle.quarters.specs.declared.exact.Exact.{Exact}
-use Rattle.quarters.specs.declared.exact.Exact.the-variants as exact
+use Rattle.exact.specs.declared.Exact.{Exact}
+use Rattle.exact.specs.declared.Exact.the-variants as exact
+use Rattle.exact.specs.Exacts.{Curved, exactAnswer, quarterAnswer}
+use Rattle.exact.proofs.Exacts.{exact-small}
 use Rattle.quarters.specs.declared.Walked.the-variants as walked
-use Rattle.quarters.specs.Exacts.{Curved, exactAnswer, quarterAnswer}
 use Rattle.quarters.specs.Walks.{isInRange, entered, WalkedBy, Walks}
-use Rattle.quarters.proofs.Exacts.{exact-small}
 
 -- the quarters met so far, whether every needed field of them is in range, and the sheet
 pub record Gathered : Type 0 where
@@ -132,10 +135,6 @@ module _ (s : Direction) (x : Execution) (reference : book.Reference) (measure :
         sheet = λ r k. ap (λ (n : Gathered). take (length es) (n .sheet)) (sym i) ∙ sheets es sheet (sym f ∙ r) (omega arith);
       }
     where
-      and-true : (t : Bool) → (t && true) ≡ t
-      and-true true = refl
-      and-true false = refl
-
       sheets : (es : List Entry) (sheet : List ℕ) → all isReadable (readFrom 0 es) ≡ true → length es ≤ length sheet
           → take (length es) (gathered stepped (state 0 true sheet) es .sheet) ≡ map (exactOf s x reference) (readFrom 0 es)
       sheets es sheet r k = let z : 0 + length es ≡ length es = omega arith in rw z at (sheet-is es (state 0 true sheet) r (omega arith))
@@ -147,13 +146,6 @@ gathered-refused step g (given es) n e = let z : _≡_ {A = ℕ} 0 1 = cc in abs
 
 -- ---- the sum of all magnitudes, in whole Wh
 
-total-bound : (f : Quarter → ℕ) (test : Quarter → Bool) (b : ℕ) → ((q : Quarter) → test q ≡ true → f q ≤ b) → (qs : List Quarter) → all test qs ≡ true
-    → sum (map f qs) ≤ length qs * b
-total-bound f test b h [] e = omega arith
-total-bound f test b h (q ∷ qs) e =
-    let t = both (test q) (all test qs) e in
-    omega (arith, h q (t .0), total-bound f test b h qs (t .1), suc-mul (length qs) b)
-
 total-fits : (total count d : ℕ) → count ≤ 2976 → total ≤ count * (200000000000000 * d) → total / (4 * d) < 2 ^ 63
 total-fits total count d c h =
     let m : count * (200000000000000 * d) ≤ 2976 * (200000000000000 * d) = mul-le-mul-right (200000000000000 * d) c in
@@ -161,10 +153,6 @@ total-fits total count d c h =
     omega arith
 
 -- ---- what settle's rule says of the quarters
-
-read-length : (f : ℕ → Entry → Quarter) (i : ℕ) (es : List Entry) → length (mapFrom f i es) ≡ length es
-read-length f i [] = refl
-read-length f i (e ∷ es) = ap suc (read-length f (i + 1) es)
 
 module _ (archive : List ℕ) (place : settle.Place) (basis : Basis) where
   walked-refused : (sheet : List ℕ) (n : ℕ) → quartersOf archive place basis ≡ refused n → WalkedBy archive place basis sheet (walked.Refused n)
@@ -200,7 +188,7 @@ module _ (archive : List ℕ) (place : settle.Place) (basis : Basis) where
           → exactOf (directionOf (place .measure .bytes)) (executionOf (place .measure .bytes)) (basis .reference) q ≤ 200000000000000 * denominator (basis .reference))
           → WalkedBy archive place basis (g .sheet) (walked.Count (g .count))
       walked-given f small =
-          let size : length (quartersRead place (h .entries)) ≡ length (h .entries) = read-length _ 0 (h .entries) in
+          let size : length (quartersRead place (h .entries)) ≡ length (h .entries) = map-from-length _ 0 (h .entries) in
           let is = quarters-read f in
           record {
             answers = rw (is, size) (ap walked.Count (h .count));
@@ -208,7 +196,7 @@ module _ (archive : List ℕ) (place : settle.Place) (basis : Basis) where
                 let e = same-given i is in rw (e, size) (h .sheet f (omega (arith, k, ap (λ (qs : List Quarter). length qs) e, size)));
             fits = λ quarters i. rw (same-given i is)
                 (total-fits _ (length (h .entries)) (denominator (basis .reference)) few
-                (rw (← size) (total-bound _ (readable place basis) _ small (quartersRead place (h .entries)) (sym (h .fine) ∙ f))));
+                (rw (← size) (sum-low _ _ (quartersRead place (h .entries)) (all-weaker _ small (all-passed (readable place basis) _ (sym (h .fine) ∙ f))))));
           }
 
 -- ---- the walk of the code
@@ -228,6 +216,9 @@ module _ {archive : List ℕ} {used measure : ℕ} {s : Direction} {x : Executio
   pub going-starts : {link : ℕ} → measure < used → link ≡ firstQuarter (recordAt archive measure)
       → Going archive used measure s x reference curve table start measure link (state 0 true start)
   going-starts below e = record { gathers = λ points c. rw e; below = below; counted = omega arith; size = refl }
+
+  pub going-counts : {last link : ℕ} {g : Gathered} → Going archive used measure s x reference curve table start last link g → used < 65536 → Fits w64 (g .count + 1)
+  going-counts h few = record { fits = omega (arith, h .counted, h .below) }
 
   pub going-on : {last link n next count : ℕ} {fine fine′ : Bool} {sheet sheet′ : List ℕ} (magnitude : Exact)
       → Going archive used measure s x reference curve table start last link (state count fine sheet)

@@ -14,11 +14,11 @@ use Rattle.place.specs.Places.{meant}
 use Rattle.curve.specs.declared.Curve.{Curve}
 use Rattle.energy.specs.declared.reference.Reference.{Reference}
 use Rattle.energy.specs.References.{meaning}
-use Rattle.quarters.specs.declared.exact.Exact.{Exact}
-use Rattle.quarters.specs.declared.exact.Exact.the-variants as exact
+use Rattle.exact.specs.declared.Exact.{Exact}
+use Rattle.exact.specs.declared.Exact.the-variants as exact
+use Rattle.exact.specs.Exacts.{Curved}
 use Rattle.quarters.specs.declared.Walked.{Walked}
 use Rattle.quarters.specs.declared.Walked.the-variants as walked
-use Rattle.quarters.specs.Exacts.{Curved}
 
 -- ---- one quarter
 

@@ -5,7 +5,7 @@ ghost use mathlib.Core.Bool.{_&&_};
 ghost use lib.Dec.{leb};
 ghost use Rattle.place.specs.Places.{Lies};
 ghost use Rattle.energy.specs.References.{Bounded};
-ghost use Rattle.quarters.specs.Exacts.{Tabled};
+ghost use Rattle.exact.specs.Exacts.{Tabled};
 ghost use Rattle.quarters.specs.Walks.{isInRange, entered, Walks};
 use archive::Link;
 use curve::Curve;
@@ -14,8 +14,6 @@ use exact::Exact;
 use place::Place;
 use rules::kind;
 use rules::refusal;
-
-mod exact;
 
 // A magnitude goes to its place of the sheet, if the sheet has that place; the answer is whether it is in range.
 fn enter(sheet: &mut [u64], count: usize, magnitude: Exact) -> bool
@@ -62,8 +60,8 @@ pub fn walk(
     let used = place.used;
     let measure = place.measure;
     let m = measure as usize;
-    let direction = place::terms::direction_of(&archive[32 * m..32 * m + 32]);
-    let execution = place::terms::execution_of(&archive[32 * m..32 * m + 32]);
+    let direction = terms::direction_of(&archive[32 * m..32 * m + 32]);
+    let execution = terms::execution_of(&archive[32 * m..32 * m + 32]);
     let mut last = measure;
     let mut link = archive::link_of(archive, measure, 12);
     let mut count: usize = 0;

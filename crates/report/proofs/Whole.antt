@@ -5,7 +5,7 @@ use mathlib.Core.List.{List, [], _++_}
 use Prim.Native.Nat.{ℕ}
 use lib.IntN.{ℤ}
 use lib.ListN.{take}
-use Rattle.rules.specs.Output.{Line, output, textOfAll}
+use Rattle.rules.specs.Output.{output, textOfAll}
 use Rattle.report.specs.declared.Cursor.{Cursor}
 use Rattle.report.specs.Cursors.{rest, finished, Fits, Begins, Fills}
 use Rattle.report.proofs.Laws.{finished-none}

@@ -7,13 +7,14 @@ use native.Mathlib.Omega.{arith}
 use borrow.Author.Tests.{eqb-true, eqb-false}
 use lib.Dec.{T, eqb, leb, ltb, lit<}
 use lib.ListN.{length, drop, length-take, length-drop}
-use lib.Seq.{getD-take, getD-drop, ext-getD}
+use lib.Seq.{ext-getD}
 use Rattle.rules.specs.Outcome.{Outcome, refused, given, _>>=_, _>>_, require}
 use Rattle.rules.specs.Archive.{byteAt, linkAt, recordAt, kindOf, nextOf, usedOf, Entry, follow, atPlace, chainFrom, chain}
 use Rattle.rules.specs.Terms.{Technology, wind, solar, other, Variant, spitz, pauschal}
 use Rattle.rules.specs.Numbers.{member}
 use Rattle.rules.specs.Settle.{Place, placeOf, pointsOf, beforesOf, basisBy, basisOf}
 use Rattle.rules.specs.Fractions.{Raised, quarterNumbers}
+use Rattle.rules.proofs.Bytes.{byte-of}
 
 -- not one of bytes 8-15
 abbrev pub elsewhere : ℕ → Bool
@@ -25,10 +26,6 @@ pub record Agree (a b : List ℕ) : Type 0 where
   pub others : (n : ℕ) → eqb (kindOf (recordAt a n)) 5 ≡ false → recordAt a n ≡ recordAt b n
 
 -- ---- bytes of a record
-
-pub byte-of-record : (a : List ℕ) (n at : ℕ) → at < 32 → byteAt (recordAt a n) at ≡ byteAt a (32 * n + at)
-unfolding recordAt
-byte-of-record a n at h = getD-take 32 (drop (32 * n) a) at 0 h ∙ getD-drop (32 * n) a at 0
 
 record-length : (a b : List ℕ) (n : ℕ) → length a ≡ length b → length (recordAt a n) ≡ length (recordAt b n)
 unfolding recordAt
@@ -49,9 +46,9 @@ module _ (a b : List ℕ) (p k : ℕ) (raised : Raised a b p k)
     (kinds : (n : ℕ) → member n (quarterNumbers a p k) ≡ true → kindOf (recordAt a n) ≡ 5) where
   by-byte : (n at : ℕ) → at < 32 → (member n (quarterNumbers a p k) && (leb 8 at && leb at 15)) ≡ false → byteAt (recordAt a n) at ≡ byteAt (recordAt b n) at
   by-byte n at h e =
-      byte-of-record a n at h
+      byte-of a n at h
       ∙ raised .equal-elsewhere (32 * n + at) (ap₂ (λ (q r : ℕ). member q (quarterNumbers a p k) && (leb 8 r && leb r 15)) quotient remainder ∙ e)
-      ∙ sym (byte-of-record b n at h)
+      ∙ sym (byte-of b n at h)
     where
       quotient : (32 * n + at) / 32 ≡ n
       quotient = omega arith

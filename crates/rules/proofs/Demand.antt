@@ -1,21 +1,21 @@
 -- Demand 3 of one call: over every stretch of a measure the amounts that settle leaves are less than 1 Wh away from the exact fraction, and
 -- the total is the exact total, rounded toward zero.
-use mathlib.Core.Path.{_≡_, refl, sym, _∙_, ap, subst}
+use mathlib.Core.Path.{_≡_, refl, sym, _∙_, ap}
 use mathlib.Core.List.{List, _++_, map}
-use Prim.Native.Nat.{ℕ, suc, _*_, _-_, _≤_, _<_}
+use Prim.Native.Nat.{ℕ, suc, _-_, _≤_, _<_}
 use native.Mathlib.Omega.{arith}
-use lib.IntN.{ℤ, pos, natAbs, _-ℤ_, _*ℤ_}
+use lib.IntN.{ℤ}
 use lib.ListN.{length, length-map, length-drop, take, drop}
 use lib.Seq.{take-append-le, drop-append-le}
-use Rattle.rules.specs.Outcome.{Outcome, refused, given, _>>=_, numberOf}
+use Rattle.rules.specs.Outcome.{given, _>>=_}
 use Rattle.rules.specs.Refusals.{settleRefusals}
 use Rattle.rules.specs.Numbers.{sumℤ}
 use Rattle.rules.specs.Terms.{Direction, directionOf}
 use Rattle.rules.specs.Reference.{denominator}
 use Rattle.rules.specs.Booking.{signed, amountsOf}
-use Rattle.rules.specs.Settle.{measureDenominator, exactsOf, Settlement, countOf, settle, Answer, answerOf, listAfter}
+use Rattle.rules.specs.Settle.{measureDenominator, exactsOf, Settlement, countOf, settle, answerOf}
 use Rattle.rules.specs.Fractions.{exactFractions, fractionsOf, stretch, Exact}
-use Rattle.rules.specs.Promises.{KeepsToFractions, Settles}
+use Rattle.rules.specs.Promises.{KeepsToFractions}
 use Rattle.rules.specs.Demands.{SettleKeeps}
 use Rattle.rules.proofs.Stretch.{amounts-near, amounts-total}
 use Rattle.rules.proofs.Positive.{basis-positive}

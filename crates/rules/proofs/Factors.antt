@@ -1,13 +1,13 @@
--- The eight rows of the plant factor, against the sentence of 01: one test computed over 12 months and 96 quarters of the day.
+-- The eight rows of the plant factor, against the sentence of 01: one test computed over both seasons and 96 quarters of the day.
 use mathlib.Core.Path.{_≡_}
-use mathlib.Core.Bool.{Bool, true, cond, _&&_, _||_}
+use mathlib.Core.Bool.{Bool, true, false, cond, _&&_, _||_}
 use Prim.Native.Nat.{ℕ, zero, suc, _≤_, _<_}
 use native.Mathlib.Omega.{arith}
 use native.Mathlib.Decide.{ℕ-discrete}
 use lib.Dec.{T, eqb, leb, eqb→eq}
 use lib.ListN.{length}
 use Rattle.rules.specs.Numbers.{keep}
-use Rattle.rules.specs.Reference.{plantFactor, factorRows, isSummer, isFor, firstFor}
+use Rattle.rules.specs.Reference.{firstFor, plantFactor, factorRows, isSummer, isFor}
 use Rattle.rules.proofs.Inversion.{both-left, both-right}
 
 -- a test passes at every number below n
@@ -27,31 +27,37 @@ abbrev between : ℕ → ℕ → ℕ → Bool
 between low high n = leb low n && leb n high
 
 -- 01: summer (months 3-10), quarters 24-35 and 60-75: 2,456; 36-59: 6,189; otherwise 0. Winter, 36-39 and 56-66: 2,796; 40-55: 5,030; otherwise 0
-abbrev pub factorRule : ℕ → ℕ → ℕ
-factorRule month q =
-    cond (between 3 10 month)
+abbrev seasonRule : Bool → ℕ → ℕ
+seasonRule summer q =
+    cond summer
     (cond (between 24 35 q || between 60 75 q) 2456 (cond (between 36 59 q) 6189 0))
     (cond (between 36 39 q || between 56 66 q) 2796 (cond (between 40 55 q) 5030 0))
 
--- the rows give the rule's factor, and one row alone is for each month and quarter
-abbrev right : ℕ → ℕ → Bool
-right month q = eqb (plantFactor month q) (factorRule month q) && eqb (length (keep (isFor (isSummer month) q) factorRows)) 1
+abbrev pub factorRule : ℕ → ℕ → ℕ
+factorRule month q = seasonRule (between 3 10 month) q
 
-table-right : T (everyBelow 13 (λ month. everyBelow 96 (right month)))
-unfolding plantFactor factorRows isFor
-table-right = tt
+-- the rows give the rule's factor, and one row alone is for each season and quarter
+abbrev right : Bool → ℕ → Bool
+right summer q = eqb (firstFor summer q factorRows) (seasonRule summer q) && eqb (length (keep (isFor summer q) factorRows)) 1
 
-at-each : (month q : ℕ) → month < 13 → q < 96 → T (right month q)
-at-each month q hm hq = below 96 (right month) (below 13 (λ m. everyBelow 96 (right m)) table-right month hm) q hq
+table-right : (summer : Bool) → T (everyBelow 96 (right summer))
+unfolding factorRows isFor
+table-right true = tt
+table-right false = tt
+
+at-each : (summer : Bool) (q : ℕ) → q < 96 → T (right summer q)
+at-each summer q h = below 96 (right summer) (table-right summer) q h
 
 pub factor-is : (month q : ℕ) → month ≤ 12 → q ≤ 95 → plantFactor month q ≡ factorRule month q
+unfolding plantFactor
 factor-is month q hm hq =
     eqb→eq (plantFactor month q) (factorRule month q)
     (both-left (eqb (plantFactor month q) (factorRule month q)) (eqb (length (keep (isFor (isSummer month) q) factorRows)) 1)
-    (at-each month q (omega arith) (omega arith)))
+    (at-each (isSummer month) q (omega arith)))
 
 pub one-row : (month q : ℕ) → month ≤ 12 → q ≤ 95 → length (keep (isFor (isSummer month) q) factorRows) ≡ 1
+unfolding plantFactor
 one-row month q hm hq =
     eqb→eq (length (keep (isFor (isSummer month) q) factorRows)) 1
     (both-right (eqb (plantFactor month q) (factorRule month q)) (eqb (length (keep (isFor (isSummer month) q) factorRows)) 1)
-    (at-each month q (omega arith) (omega arith)))
+    (at-each (isSummer month) q (omega arith)))

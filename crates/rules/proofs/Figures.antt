@@ -1,14 +1,16 @@
 -- The worked examples of specs/Figures.antt hold: each list by one computed test.
-use Prim.Native.Nat.{ℕ}
-use mathlib.Core.Path.{_≡_, refl, ap, ap₂}
+use Prim.Native.Nat.{ℕ, zero, suc, _+_, _≤_}
+use mathlib.Core.Path.{_≡_, refl, _∙_, ap, ap₂}
+use native.Mathlib.Omega.{arith}
 use mathlib.Core.Bool.{Bool, true, false, _&&_}
-use mathlib.Core.List.{List, [], _∷_, flatMap}
+use mathlib.Core.List.{List, [], _∷_, _++_, flatMap}
 use lib.Dec.{eqb}
 use lib.IntN.{ℤ, pos, negsuc}
+use lib.ListN.{length, take, drop, replicate, length-replicate}
 use borrow.Author.Tests.{eqb-true}
-use Rattle.rules.specs.Outcome.{_>>=_, _>>_, require}
+use Rattle.rules.specs.Outcome.{given, _>>=_, _>>_, require}
 use Rattle.rules.specs.Numbers.{smaller, larger, all}
-use Rattle.rules.specs.Archive.{linkAt, twos, fieldAt, recordAt, usedOf, follow, chain}
+use Rattle.rules.specs.Archive.{isWhole, linkAt, twos, fieldAt, recordAt, usedOf, follow, chain}
 use Rattle.rules.specs.Terms.{plantAllowed, measureAllowed, pointOf, pointAllowed, beforeOf, quarterOf}
 use Rattle.rules.specs.Reference.{limitation, readCurve, curvePower, factorRows, isFor, plantFactor, numerator, magnitude, exactOf}
 use Rattle.rules.specs.Booking.{amountsOf}
@@ -21,8 +23,9 @@ use Rattle.rules.specs.Filing.{fresh, offsetFor, appendAfter, append, sh
 use Rattle.rules.specs.Audit.{linkChecked, recordChecked, audit}
 use Rattle.rules.specs.ReadBack.{fileAll, unlinked, readUnder, readBack}
 use Rattle.rules.specs.Output.{linesFrom, output, decimal, textOfAll}
-use Rattle.rules.specs.Figures.{Hold, caseA, windCase, plannedCase, caseF, caseG, factorCase, caseK, fiveBefores, twoPlants, filingsA, figures, refusals, orders, calls}
-use Rattle.rules.proofs.Sound.{both}
+use Rattle.rules.specs.Figures.{Hold, head, caseA, windCase, plannedCase, caseF, caseG, factorCase, caseK, fiveBefores, twoPlants, filingsA, figures, refusals, orders, calls}
+use Rattle.rules.proofs.Sound.{both, whole-length, head-used}
+use Rattle.rules.proofs.Output.{output-long, output-given, lines-no-plant}
 
 -- ---- equality by a test: one Bool is computed, where two lists compared by conversion compute each entry several times
 
@@ -71,6 +74,12 @@ module _ {A : Type 0} (on : Equality A) where
   hold [] e = refl
   hold (x ∷ xs) e = let t = both (agree x) (all agree xs) e in ap₂ _∷_ (on .equal (x .0) (x .1) (t .0)) (hold xs (t .1))
 
+  -- the test on the first n entries alone
+  hold-past : (n : ℕ) (entries : List (A × A)) → all agree (take n entries) ≡ true → Hold (drop n entries) → Hold entries
+  hold-past n [] e rest = refl
+  hold-past zero (x ∷ xs) e rest = rest
+  hold-past (suc n) (x ∷ xs) e rest = let t = both (agree x) (all agree (take n xs)) e in ap₂ _∷_ (on .equal (x .0) (x .1) (t .0)) (hold-past n xs (t .1) rest)
+
 -- ---- the examples
 
 -- to unfold this is to unfold every definition that the examples compute with
@@ -90,6 +99,33 @@ pub orders-hold : Hold orders
 unfolding rules orders
 orders-hold = hold (lists integers) orders refl
 
+-- inputs of 65,536 bytes and more, by laws: to count so many bytes takes long
+module _ (n : ℕ) where
+  -- a head that leads to no plant, and so many zeros
+  abbrev plain : List ℕ
+  plain = head 1 0 ++ replicate n 0
+
+  plain-size : length plain ≡ n + 32
+  unfolding word
+  plain-size = omega (arith, length-replicate {A = ℕ} n 0)
+
+  plain-used : isWhole (n + 32) ≡ true → usedOf plain ≡ given 1
+  unfolding word recordAt linkAt
+  plain-used whole =
+      let w = whole-length (n + 32) whole in
+      head-used plain 1 (record { whole = rw plain-size whole; text = refl; count = refl; some = omega arith; room = rw plain-size (omega arith) })
+
+  no-plant : isWhole (n + 32) ≡ true → n ≤ 65504 → output plain ≡ []
+  unfolding word recordAt linkAt settled placeOf _>>=_
+  no-plant whole few =
+      let used = plain-used whole in
+      output-given plain 1 (omega (arith, plain-size)) used ∙ lines-no-plant plain 1 used 1 1 (rw used)
+
+-- two such entries of `calls` stand behind 24 others
 pub calls-hold : Hold calls
 unfolding rules calls
-calls-hold = hold (lists naturals) calls refl
+calls-hold =
+    hold-past (lists naturals) 24 calls refl
+    (ap₂ _∷_ (ap textOfAll (no-plant 65504 refl (omega arith)))
+    (ap₂ _∷_ (ap textOfAll (output-long (plain 65536) (omega (arith, plain-size 65536))))
+    (hold (lists naturals) (drop 26 calls) refl)))

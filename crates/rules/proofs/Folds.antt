@@ -1,5 +1,5 @@
 -- A chain gone through step by step: what a walk has gathered so far, and what the rest of the chain adds.
-use mathlib.Core.Path.{_≡_, refl}
+use mathlib.Core.Path.{_≡_}
 use mathlib.Core.List.{List, [], _∷_}
 use Prim.Native.Nat.{ℕ}
 use Rattle.rules.specs.Outcome.{Outcome, refused, given, _>>=_}

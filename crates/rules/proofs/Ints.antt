@@ -2,15 +2,13 @@
 -- Each operation gives these two parts of its result by + and - of ℕ, so an order or an equation of signed numbers is one of natural numbers.
 use mathlib.Core.Path.{_≡_, refl, sym, _∙_, ap}
 use mathlib.Core.Bool.{Bool, true, false, cond, not}
-use Prim.Native.Nat.{ℕ, zero, suc, _+_, _*_, _-_, _%_, _^_, _≤_, _<_, min, max}
-use native.Mathlib.Nat.{zero-mul, suc-mul, mul-sub, mul-comm, mul-le-mul, mul-le-mul-right, le-of-lt}
+use Prim.Native.Nat.{ℕ, zero, suc, _+_, _*_, _-_, _%_, _^_, _≤_, _<_, min}
+use native.Mathlib.Nat.{zero-mul, mul-le-mul, mul-le-mul-right, le-of-lt}
 use native.Mathlib.Omega.{arith}
 use lib.Dec.{T, ltb, ltb→lt, nltb→le, leb→le, nleb→lt, le→leb}
 use lib.IntN.{ℤ, pos, negsuc, negℤ, natAbs, subℕ, _+ℤ_, _-ℤ_, _*ℤ_}
 use lib.Signed.{leZ, _≤ℤ_, leZ-yes, mag}
-use mathlib.Core.List.{List, [], _∷_, map}
-use lib.ListN.{length}
-use Rattle.rules.specs.Numbers.{orZero, smaller, larger, sum, sumℤ}
+use Rattle.rules.specs.Numbers.{orZero, smaller, larger}
 use Rattle.rules.specs.Archive.{twos}
 
 -- by how much a number is below zero
@@ -154,60 +152,36 @@ larger-mono {a} {b} {c} {d} h k =
     (λ m. larger-case (λ z. c ≤ℤ z) b d (λ n. k) (λ n. ≤ℤ-trans k n))
     (λ m. larger-case (λ z. a ≤ℤ z) b d (λ n. ≤ℤ-trans h n) (λ n. h))
 
+-- what a comparison in the code chooses
+pub smaller-yes : (a b : ℤ) → leZ a b ≡ true → smaller a b ≡ a
+unfolding smaller
+smaller-yes a b e = rw e
+
+pub smaller-no : (a b : ℤ) → leZ a b ≡ false → smaller a b ≡ b
+unfolding smaller
+smaller-no a b e = rw e
+
+pub natural-smaller : (a b : ℕ) → smaller (pos a) (pos b) ≡ pos (min a b)
+natural-smaller a b =
+    smaller-case (λ z. z ≡ pos (min a b)) (pos a) (pos b) (λ h. ap pos (omega (arith, le-parts h))) (λ h. ap pos (omega (arith, le-parts h)))
+
 -- ---- numbers held with a bias: n stands for n - bias
 
 pub biased-eq : (n bias : ℕ) (z : ℤ) → orZero z + bias ≡ n + under z → z ≡ subℕ n bias
 biased-eq n bias z h = parts-eq z (subℕ n bias) (omega (arith, sub-parts n bias))
 
-pub biased-smaller : (m n bias : ℕ) → smaller (subℕ m bias) (subℕ n bias) ≡ subℕ (min m n) bias
-biased-smaller m n bias =
-    biased-eq (min m n) bias (smaller (subℕ m bias) (subℕ n bias))
-    (smaller-case (λ z. orZero z + bias ≡ min m n + under z) (subℕ m bias) (subℕ n bias)
-    (λ h. omega (arith, le-parts h, sub-parts m bias, sub-parts n bias))
-    (λ h. omega (arith, le-parts h, sub-parts m bias, sub-parts n bias)))
+pub biased-add : (m n b c : ℕ) → subℕ m b +ℤ subℕ n c ≡ subℕ (m + n) (b + c)
+biased-add m n b c =
+    parts-eq (subℕ m b +ℤ subℕ n c) (subℕ (m + n) (b + c))
+    (omega (arith, add-parts (subℕ m b) (subℕ n c), sub-parts m b, sub-parts n c, sub-parts (m + n) (b + c)))
 
-pub biased-larger : (m n bias : ℕ) → larger (subℕ m bias) (subℕ n bias) ≡ subℕ (max m n) bias
-biased-larger m n bias =
-    biased-eq (max m n) bias (larger (subℕ m bias) (subℕ n bias))
-    (larger-case (λ z. orZero z + bias ≡ max m n + under z) (subℕ m bias) (subℕ n bias)
-    (λ h. omega (arith, le-parts h, sub-parts m bias, sub-parts n bias))
-    (λ h. omega (arith, le-parts h, sub-parts m bias, sub-parts n bias)))
-
--- a product by a natural number has the bias times that number
-pub biased-times : (n bias d : ℕ) → subℕ n bias *ℤ pos d ≡ subℕ (n * d) (bias * d)
-biased-times n bias d =
-    parts-eq (subℕ n bias *ℤ pos d) (subℕ (n * d) (bias * d))
-    (omega (
-      arith,
-      orZero-times (subℕ n bias) d,
-      under-times (subℕ n bias) d,
-      orZero-sub (n * d) (bias * d),
-      under-sub (n * d) (bias * d),
-      ap (λ (x : ℕ). x * d) (orZero-sub n bias),
-      ap (λ (x : ℕ). x * d) (under-sub n bias),
-      sub-times n bias d,
-      sub-times bias n d,
-    ))
-  where
-    sub-times : (a b c : ℕ) → (a - b) * c ≡ a * c - b * c
-    sub-times a b c = mul-comm (a - b) c ∙ mul-sub c a b ∙ omega (arith, mul-comm c a, mul-comm c b)
-
--- a difference of two with one bias, or 0 if it is below 0, is the difference of the two as they are held
-pub biased-minus : (m n bias : ℕ) → orZero (subℕ m bias -ℤ subℕ n bias) ≡ m - n
-biased-minus m n bias =
-    omega (arith, orZero-minus (subℕ m bias) (subℕ n bias), orZero-sub m bias, under-sub m bias, orZero-sub n bias, under-sub n bias)
-
--- a number that is 0 or more, held with a bias
-pub biased-natural : (n bias : ℕ) → pos n ≡ subℕ (n + bias) bias
-biased-natural n bias = biased-eq (n + bias) bias (pos n) (omega arith)
-
--- T - L over the denominator d, or 0: t is held with d times the bias
-pub biased-excess : (t l bias d : ℕ) → orZero (subℕ t (bias * d) -ℤ subℕ l bias *ℤ pos d) ≡ t - l * d
-biased-excess t l bias d = rw (biased-times l bias d) (biased-minus t (l * d) (bias * d))
-
--- L - T over the denominator d, or 0
-pub biased-excess-of : (t l bias d : ℕ) → orZero (subℕ l bias *ℤ pos d -ℤ subℕ t (bias * d)) ≡ l * d - t
-biased-excess-of t l bias d = rw (biased-times l bias d) (biased-minus (l * d) t (bias * d))
+-- a 4-byte field: every word w stands for ((w + 2 ^ 31) % 2 ^ 32) - 2 ^ 31
+pub twos-biased : (w : ℕ) → w < 2 ^ 32 → twos w ≡ subℕ ((w + 2 ^ 31) % 2 ^ 32) (2 ^ 31)
+unfolding twos
+twos-biased w h = either (λ z. z ≡ subℕ ((w + 2 ^ 31) % 2 ^ 32) (2 ^ 31)) (ltb w (2 ^ 31))
+    (λ t. biased-eq ((w + 2 ^ 31) % 2 ^ 32) (2 ^ 31) (pos w) (omega (arith, ltb→lt w (2 ^ 31) t)))
+    (λ t. biased-eq ((w + 2 ^ 31) % 2 ^ 32) (2 ^ 31) (subℕ w (2 ^ 32))
+    (omega (arith, nltb→le w (2 ^ 31) t, orZero-sub w (2 ^ 32), under-sub w (2 ^ 32))))
 
 -- ---- within a signed width: mag z < 2 ^ 63 is what an i64 asks
 
@@ -218,15 +192,6 @@ mag-parts (negsuc n) p q = q
 pub parts-mag : (z : ℤ) {h : ℕ} → mag z < h → (orZero z < h) × (under z ≤ h)
 parts-mag (pos n) p = omega arith
 parts-mag (negsuc n) p = omega arith
-
--- what a comparison in the code chooses
-pub smaller-yes : (a b : ℤ) → leZ a b ≡ true → smaller a b ≡ a
-unfolding smaller
-smaller-yes a b e = rw e
-
-pub smaller-no : (a b : ℤ) → leZ a b ≡ false → smaller a b ≡ b
-unfolding smaller
-smaller-no a b e = rw e
 
 -- a product and a difference within a signed width, for a measure's T - L × D
 pub mag-times : (l : ℤ) (n bl bn : ℕ) → mag l < bl → n ≤ bn → mag (l *ℤ pos n) < bl * bn + 1
@@ -240,36 +205,3 @@ mag-minus a b ba bb ha hb =
     mag-parts (a -ℤ b)
     (omega (arith, orZero-minus a b, parts-mag a ha, parts-mag b hb))
     (omega (arith, under-minus a b, parts-mag a ha, parts-mag b hb))
-
--- a 4-byte field as it is held: every word w stands for ((w + 2 ^ 31) % 2 ^ 32) - 2 ^ 31
-pub twos-biased : (w : ℕ) → w < 2 ^ 32 → twos w ≡ subℕ ((w + 2 ^ 31) % 2 ^ 32) (2 ^ 31)
-unfolding twos
-twos-biased w h = either (λ z. z ≡ subℕ ((w + 2 ^ 31) % 2 ^ 32) (2 ^ 31)) (ltb w (2 ^ 31))
-    (λ t. biased-eq ((w + 2 ^ 31) % 2 ^ 32) (2 ^ 31) (pos w) (omega (arith, ltb→lt w (2 ^ 31) t)))
-    (λ t. biased-eq ((w + 2 ^ 31) % 2 ^ 32) (2 ^ 31) (subℕ w (2 ^ 32))
-    (omega (arith, nltb→le w (2 ^ 31) t, orZero-sub w (2 ^ 32), under-sub w (2 ^ 32))))
-
--- another bias
-pub rebias : (n bias k : ℕ) → subℕ n bias ≡ subℕ (n + k) (bias + k)
-rebias n bias k = biased-eq (n + k) (bias + k) (subℕ n bias) (omega (arith, sub-parts n bias))
-
--- an order between two with one bias
-pub biased-le : (m n bias : ℕ) → m ≤ n → subℕ m bias ≤ℤ subℕ n bias
-biased-le m n bias h = parts-le (subℕ m bias) (subℕ n bias) (omega (arith, sub-parts m bias, sub-parts n bias))
-
--- a sum of two, and of a list
-pub biased-add : (m n b c : ℕ) → subℕ m b +ℤ subℕ n c ≡ subℕ (m + n) (b + c)
-biased-add m n b c =
-    parts-eq (subℕ m b +ℤ subℕ n c) (subℕ (m + n) (b + c))
-    (omega (arith, add-parts (subℕ m b) (subℕ n c), sub-parts m b, sub-parts n c, sub-parts (m + n) (b + c)))
-
-pub biased-sum : (bias : ℕ) (ns : List ℕ) → sumℤ (map (λ (n : ℕ). subℕ n bias) ns) ≡ subℕ (sum ns) (length ns * bias)
-biased-sum bias [] = biased-eq 0 (0 * bias) (pos 0) (omega (arith, zero-mul bias))
-biased-sum bias (n ∷ ns) =
-    ap (λ z. subℕ n bias +ℤ z) (biased-sum bias ns) ∙ biased-add n (sum ns) bias (length ns * bias)
-    ∙ ap (λ (k : ℕ). subℕ (n + sum ns) k) (omega (arith, suc-mul (length ns) bias))
-
--- a difference of two with biases of their own, or 0 if it is below 0
-pub biased-minus-any : (x bx y by : ℕ) → orZero (subℕ x bx -ℤ subℕ y by) ≡ (x + by) - (y + bx)
-biased-minus-any x bx y by =
-    omega (arith, orZero-minus (subℕ x bx) (subℕ y by), orZero-sub x bx, under-sub x bx, orZero-sub y by, under-sub y by)

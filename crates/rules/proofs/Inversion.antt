@@ -30,11 +30,11 @@ unfolding _>>_ require
 holds-require true n rest h = h tt
 holds-require false n rest h = record { of = λ a e. clash e }
 
+pub given-inj : {A : Type 0} {a b : A} → given a ≡ given b → a ≡ b
+given-inj e = cc
+
 pub holds-given : {A : Type 0} {P : A → Type 0} (a : A) → P a → Holds P (given a)
 holds-given {P} a p = record { of = λ b e. subst P (given-inj e) p }
-  where
-    given-inj : {b : _} → given a ≡ given b → a ≡ b
-    given-inj e = cc
 
 pub holds-cond : {A : Type 0} {P : A → Type 0} (t : Bool) {x y : Outcome A} → Holds P x → Holds P y → Holds P (cond t x y)
 holds-cond true h k = h

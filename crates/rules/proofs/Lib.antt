@@ -1,10 +1,10 @@
 pub mod Ints
 pub mod Inversion
 pub mod Chains
+pub mod Parts
 pub mod Lists
 pub mod Bytes
 pub mod Stretch
-pub mod Biased
 pub mod Places
 pub mod Sound
 pub mod Runs

@@ -1,14 +1,17 @@
--- Lists: what is kept, and places that lie at least four apart.
-use mathlib.Core.Path.{_≡_, refl, sym, _∙_, ap, subst}
-use mathlib.Core.Bool.{Bool, true, false, cond}
+-- Lists: what is kept, places that lie at least four apart, and what holds of a member.
+use mathlib.Core.Path.{_≡_, refl, sym, _∙_, ap}
+use mathlib.Core.Bool.{Bool, true, false, cond, _||_}
 use mathlib.Core.List.{List, [], _∷_, _++_, map, List·Memᴰ, List·Memᴰ·head, List·Memᴰ·tail, List·Memᴰ·cases-cons, List·Memᴰ·eq-of-singleton, List·Memᴰ·not-nil}
 use mathlib.Core.Logic.{_⊎_, inl, inr}
-use Prim.Native.Nat.{ℕ, zero, suc, _+_, _≤_, _<_}
+use Prim.Native.Nat.{ℕ, suc, _+_, _*_, _≤_}
+use native.Mathlib.Nat.{suc-mul}
 use native.Mathlib.Omega.{arith}
 use lib.Dec.{eqb}
 use lib.ListN.{length}
 use borrow.Author.Tests.{eq-eqb, ne-eqb, eqb-true}
-use Rattle.rules.specs.Numbers.{keep}
+use Rattle.rules.specs.Numbers.{keep, all, member, sum, mapFrom}
+use Rattle.rules.proofs.Inversion.{All, none, more}
+use Rattle.rules.proofs.Sound.{both}
 
 module _ {A : Type 0} where
   pub keep-same : (f g : A → Bool) (l : List A) → ((a : A) → List·Memᴰ a l → f a ≡ g a) → keep f l ≡ keep g l
@@ -37,18 +40,6 @@ module _ {A : Type 0} where
       go : (u : Bool) → List·Memᴰ a (keep f l) → List·Memᴰ a (cond u (b ∷ keep f l) (keep f l))
       go true m = List·Memᴰ·tail m
       go false m = m
-
-  pub of-keep : (f : A → Bool) (l : List A) (a : A) → List·Memᴰ a (keep f l) → List·Memᴰ a l × (f a ≡ true)
-  of-keep f [] a m = absurd (List·Memᴰ·not-nil m)
-  of-keep f (b ∷ l) a m = go (f b) refl m (of-keep f l a)
-    where
-      go : (t : Bool) → f b ≡ t → List·Memᴰ a (cond t (b ∷ keep f l) (keep f l)) → (List·Memᴰ a (keep f l) → List·Memᴰ a l × (f a ≡ true)) → List·Memᴰ a (b ∷ l) × (f a ≡ true)
-      go false e m g = let w = g m in (List·Memᴰ·tail (w .0), w .1)
-      go true e m g = by (List·Memᴰ·cases-cons m)
-        where
-          by : (a ≡ b) ⊎ List·Memᴰ a (keep f l) → List·Memᴰ a (b ∷ l) × (f a ≡ true)
-          by (inl i) = (List·Memᴰ·head i, ap f i ∙ e)
-          by (inr n) = let w = g n in (List·Memᴰ·tail (w .0), w .1)
 
   pub one-only : (l : List A) (a b : A) → length l ≡ 1 → List·Memᴰ a l → List·Memᴰ b l → a ≡ b
   one-only [] a b h m n = absurd (List·Memᴰ·not-nil m)
@@ -115,3 +106,31 @@ of-map {A} f {b} (a ∷ l) m = go (List·Memᴰ·cases-cons m) (λ m. of-map f l
     go : (b ≡ f a) ⊎ List·Memᴰ b (map f l) → (List·Memᴰ b (map f l) → (x : A) × List·Memᴰ x l × (b ≡ f x)) → (x : A) × List·Memᴰ x (a ∷ l) × (b ≡ f x)
     go (inl e) k = (a, List·Memᴰ·head refl, e)
     go (inr m) k = let w = k m in (w .0, List·Memᴰ·tail (w .1), w .2)
+
+pub map-from-length : {A B : Type 0} (f : ℕ → A → B) (i : ℕ) (l : List A) → length (mapFrom f i l) ≡ length l
+map-from-length f i [] = refl
+map-from-length f i (a ∷ l) = ap suc (map-from-length f (i + 1) l)
+
+-- a test that all pass, at one of them
+pub at-member : (test : ℕ → Bool) (l : List ℕ) (n : ℕ) → all test l ≡ true → member n l ≡ true → test n ≡ true
+at-member test [] n a m = cc
+at-member test (k ∷ l) n a m = let t = both (test k) (all test l) a in go (eqb n k) refl m (t .0) (at-member test l n (t .1))
+  where
+    go : (t : Bool) → eqb n k ≡ t → (t || member n l) ≡ true → test k ≡ true → (member n l ≡ true → test n ≡ true) → test n ≡ true
+    go true e m′ first rest = rw (eqb-true n k e) first
+    go false e m′ first rest = rest m′
+
+-- ---- what holds of every element
+
+module _ {A : Type 0} where
+  pub all-passed : (p : A → Bool) (xs : List A) → all p xs ≡ true → All (λ x. p x ≡ true) xs
+  all-passed p [] e = none
+  all-passed p (x ∷ xs) e = let b = both (p x) (all p xs) e in more (b .0) (all-passed p xs (b .1))
+
+  pub all-weaker : {P Q : A → Type 0} (xs : List A) → ((x : A) → P x → Q x) → All P xs → All Q xs
+  all-weaker [] f none = none
+  all-weaker (x ∷ xs) f (more h hs) = more (f x h) (all-weaker xs f hs)
+
+  pub sum-low : (f : A → ℕ) (top : ℕ) (xs : List A) → All (λ x. f x ≤ top) xs → sum (map f xs) ≤ length xs * top
+  sum-low f top [] none = omega arith
+  sum-low f top (x ∷ xs) (more h hs) = omega (arith, sum-low f top xs hs, suc-mul (length xs) top)

@@ -1,26 +1,23 @@
 -- The program's lines and their text: the bound on the steps is never met, a number's digits read back give it, and the laws that printing follows.
 use mathlib.Core.Path.{_≡_, refl, sym, ap}
 use mathlib.Core.Bool.{Bool, true, false, cond}
-use mathlib.Core.Logic.{_⊎_, inl, inr}
 use mathlib.Core.List.{List, [], _∷_, _++_, append-assoc, append-nil}
 use Prim.Native.Nat.{ℕ, zero, suc, _+_, _*_, _-_, _/_, _%_, _^_, _≤_, _<_}
-use native.Mathlib.Nat.{add-zero, mul-le-mul-right}
+use native.Mathlib.Nat.{mul-le-mul-right}
 use native.Mathlib.Numerals.{add-one}
 use native.Mathlib.Omega.{arith}
 use lib.Dec.{ltb}
-use lib.IntN.{ℤ, pos, negsuc}
-use lib.ListN.{length, getD, take, drop, length-append, drop-of-length-le}
-use lib.Seq.{drop-cons, take-suc, length-take-le}
-use borrow.Author.Tests.{lt-ltb, le-ltb, ltb-true, ltb-false, ne-eqb}
+use lib.ListN.{length, getD, drop, length-append}
+use lib.Seq.{drop-cons}
+use borrow.Author.Tests.{lt-ltb, le-ltb, ltb-true, ltb-false}
 use Rattle.rules.specs.Outcome.{refused, given}
-use Rattle.rules.specs.Refusals.{badLink, wrongKind, noPlant, noMeasure}
-use Rattle.rules.specs.Numbers.{orZero, mapFrom}
+use Rattle.rules.specs.Refusals.{noPlant}
+use Rattle.rules.specs.Numbers.{mapFrom}
 use Rattle.rules.specs.Archive.{byteAt, usedOf}
 use Rattle.rules.specs.Settle.{Settlement, countOf, totalOf, settled}
-use Rattle.rules.specs.Output.{Line, measureLine, quarterLine, refusalLine, linesOf, Step, nextMeasure, nextPlant, stop, stepAfter, goOn, linesIn, linesFrom}
-use Rattle.rules.specs.Output.{headRefused, output, digitsIn, decimal, signedDecimal, textOf, textOfAll}
+use Rattle.rules.specs.Output.{Line, measureLine, quarterLine, linesOf, Step, nextMeasure, nextPlant, stop, stepAfter, goOn, linesIn, linesFrom}
+use Rattle.rules.specs.Output.{headRefused, output, digitsIn, decimal, textOf, textOfAll}
 use Rattle.rules.proofs.Inversion.{All, none, more}
-use Rattle.rules.proofs.Ints.{under}
 use Rattle.rules.proofs.PlacesOnChains.{settled-answers}
 
 -- ---- the order of the lines
@@ -79,25 +76,13 @@ module _ (archive : List ℕ) (used : ℕ) (head : usedOf archive ≡ given used
   unfolding linesFrom
   lines-are p k = enough ((used + 1) * (used + 1)) p k (omega arith)
 
+  pub lines-no-plant : (p k : ℕ) → settled archive p k ≡ refused noPlant → linesFrom used archive p k ≡ []
+  lines-no-plant p k e = rw (lines-are p k, e)
+
   -- the same by the answer of settle
   pub lines-given : (p k : ℕ) (s : Settlement) → settled archive p k ≡ given s → linesFrom used archive p k
       ≡ (measureLine p k (countOf s) (totalOf s) (s .links) ∷ mapFrom quarterLine 1 (s .amounts)) ++ linesFrom used archive p (k + 1)
   lines-given p k s e = rw (lines-are p k, e)
-
-  pub lines-no-plant : (p k : ℕ) → settled archive p k ≡ refused noPlant → linesFrom used archive p k ≡ []
-  lines-no-plant p k e = rw (lines-are p k, e)
-
-  pub lines-no-measure : (p k : ℕ) → settled archive p k ≡ refused noMeasure → linesFrom used archive p k ≡ linesFrom used archive (p + 1) 1
-  lines-no-measure p k e = rw (lines-are p k, e)
-
-  pub lines-end : (p k n : ℕ) → settled archive p k ≡ refused n → (n ≡ badLink) ⊎ (n ≡ wrongKind) → linesFrom used archive p k ≡ refusalLine p k n ∷ []
-  lines-end p k n e (inl two) = rw (lines-are p k, e, two)
-  lines-end p k n e (inr three) = rw (lines-are p k, e, three)
-
-  pub lines-refused : (p k n : ℕ) → settled archive p k ≡ refused n → (n ≡ badLink → ⊥) → (n ≡ wrongKind → ⊥) → (n ≡ noPlant → ⊥) → (n ≡ noMeasure → ⊥)
-      → linesFrom used archive p k ≡ refusalLine p k n ∷ linesFrom used archive p (k + 1)
-  lines-refused p k n e two three four five =
-      rw (lines-are p k, e, ne-eqb n badLink two, ne-eqb n wrongKind three, ne-eqb n noPlant four, ne-eqb n noMeasure five)
 
 -- ---- the output
 
@@ -161,10 +146,6 @@ pub digits-more : (n : ℕ) → 10 ≤ n → n < 10 ^ 20 → decimal n ≡ decim
 unfolding decimal
 digits-more n h most = rw (le-ltb n 10 h, one-more-digit 18 (n / 10) (omega arith))
 
--- the same before whatever follows: digits can be written from the last to the first
-pub digits-before : (n : ℕ) (rest : List ℕ) → 10 ≤ n → n < 10 ^ 20 → decimal n ++ rest ≡ decimal (n / 10) ++ ((48 + n % 10) ∷ rest)
-digits-before n rest h most = rw (digits-more n h most, append-assoc (decimal (n / 10)) ((48 + n % 10) ∷ []) rest)
-
 value-append : (value : ℕ) (digits : List ℕ) (digit : ℕ) → valueFrom value (digits ++ (digit ∷ [])) ≡ 10 * valueFrom value digits + (digit - 48)
 value-append value [] digit = refl
 value-append value (d ∷ digits) digit = value-append (10 * value + (d - 48)) digits digit
@@ -203,27 +184,7 @@ decimal-length n = within 20 n
         go true h = omega arith
         go false h = omega (arith, length-append (digitsIn most (n / 10)) ((48 + n % 10) ∷ []))
 
--- a minus sign below zero, by the two parts of a signed number
-pub signed-over : (z : ℤ) → under z ≡ 0 → signedDecimal z ≡ decimal (orZero z)
-signed-over (pos n) h = refl
-signed-over (negsuc n) h = absurd (omega arith)
-
-pub signed-under : (z : ℤ) → 0 < under z → signedDecimal z ≡ 45 ∷ decimal (under z)
-signed-under (pos n) h = absurd (omega arith)
-signed-under (negsuc n) h = refl
-
-signed-length : (z : ℤ) → length (signedDecimal z) ≤ 21
-signed-length (pos n) = omega (arith, decimal-length n)
-signed-length (negsuc n) = omega (arith, decimal-length (suc n))
-
 -- ---- text of lines
-
--- a line fits 108 bytes
-pub text-length : (l : Line) → length (textOf l) ≤ 108
-text-length (measureLine p k count total links) =
-    simp length-append (omega (arith, decimal-length p, decimal-length k, decimal-length count, signed-length total, decimal-length links))
-text-length (quarterLine place amount) = simp length-append (omega (arith, decimal-length place, signed-length amount))
-text-length (refusalLine p k number) = simp length-append (omega (arith, decimal-length p, decimal-length k, decimal-length number))
 
 pub text-one : (l : Line) → textOfAll (l ∷ []) ≡ textOf l
 unfolding textOfAll
@@ -240,29 +201,7 @@ text-append (l ∷ ls) ms = rw (text-append ls ms) (sym (append-assoc (textOf l)
 
 -- ---- lines of quarters
 
-module _ {A B : Type 0} (f : ℕ → A → B) where
-  pub map-from-append : (i : ℕ) (l m : List A) → mapFrom f i (l ++ m) ≡ mapFrom f i l ++ mapFrom f (i + length l) m
-  map-from-append i [] m = rw (add-zero i)
-  map-from-append i (a ∷ l) m =
-      let e : i + 1 + length l ≡ i + suc (length l) = omega arith in
-      rw (← e, map-from-append (i + 1) l m)
-
-  -- one more of those that are left
-  pub map-from-drop : (i j : ℕ) (l : List A) (d : A) → j < length l → mapFrom f i (drop j l) ≡ f i (getD l j d) ∷ mapFrom f (i + 1) (drop (j + 1) l)
-  map-from-drop i j l d h = rw (add-one j, drop-cons l j d h)
-
-  -- one more of those that are done
-  pub map-from-take : (i j : ℕ) (l : List A) (d : A) → j < length l → mapFrom f i (take (j + 1) l) ≡ mapFrom f i (take j l) ++ (f (i + j) (getD l j d) ∷ [])
-  map-from-take i j l d h =
-      let e : length (take j l) ≡ j = length-take-le j l (omega arith) in
-      rw (add-one j, take-suc l j d h, map-from-append i (take j l) (getD l j d ∷ []), e)
-
--- the text of the quarters from index j on
-pub text-quarter : (j : ℕ) (amounts : List ℤ) (d : ℤ) → j < length amounts → textOfAll (mapFrom quarterLine (j + 1) (drop j amounts))
-    ≡ textOf (quarterLine (j + 1) (getD amounts j d)) ++ textOfAll (mapFrom quarterLine (j + 1 + 1) (drop (j + 1) amounts))
-unfolding textOfAll
-text-quarter j amounts d h = rw (map-from-drop quarterLine (j + 1) j amounts d h)
-
-pub text-quarters-end : (j : ℕ) (amounts : List ℤ) → length amounts ≤ j → textOfAll (mapFrom quarterLine (j + 1) (drop j amounts)) ≡ []
-unfolding textOfAll
-text-quarters-end j amounts h = rw (drop-of-length-le amounts h)
+-- one more of those that are left
+pub map-from-drop : {A B : Type 0} (f : ℕ → A → B) (i j : ℕ) (l : List A) (d : A) → j < length l
+    → mapFrom f i (drop j l) ≡ f i (getD l j d) ∷ mapFrom f (i + 1) (drop (j + 1) l)
+map-from-drop f i j l d h = rw (add-one j, drop-cons l j d h)

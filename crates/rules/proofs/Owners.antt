@@ -1,6 +1,6 @@
 -- The links that a record owns by its kind, the test of a new record and the owner's link to it, case by case.
-use mathlib.Core.Path.{_≡_, refl, sym, _∙_}
-use mathlib.Core.Bool.{Bool, true, false, _&&_}
+use mathlib.Core.Path.{_≡_, sym, _∙_}
+use mathlib.Core.Bool.{true, false, and-true}
 use mathlib.Core.List.{List, [], _∷_}
 use Prim.Native.Nat.{ℕ, _≤_, _<_}
 use lib.Dec.{eqb}
@@ -58,10 +58,6 @@ module _ (new : List ℕ) where
 
           pub new-second : linkAt new 8 ≡ 0 → newAllowed new ≡ eqb (linkAt new 12) 0
           new-second z = owned-decide (link 8 first ∷ link 12 second ∷ []) own ∙ rw (eq-eqb (linkAt new 8) 0 z) (and-true (eqb (linkAt new 12) 0))
-            where
-              and-true : (t : Bool) → (t && true) ≡ t
-              and-true true = refl
-              and-true false = refl
 
 -- ---- the owner's link
 

@@ -1,13 +1,13 @@
 -- The places of the archive's links: in byte order, four apart; each is a link of a used record.
 use mathlib.Core.Path.{_≡_, refl, sym, _∙_, ap, subst}
 use mathlib.Core.Bool.{Bool, true, false, cond, _&&_, _||_}
-use mathlib.Core.List.{List, [], _∷_, _++_, map, List·Memᴰ, List·Memᴰ·head, List·Memᴰ·tail, List·Memᴰ·cases-cons, List·Memᴰ·append-cases, Memᴰ·append-left, Memᴰ·append-right, Memᴰ·cast, List·Memᴰ·not-nil, List·Memᴰ·eq-of-singleton}
+use mathlib.Core.List.{List, [], _∷_, _++_, map, List·Memᴰ, List·Memᴰ·head, List·Memᴰ·tail, List·Memᴰ·cases-cons, List·Memᴰ·append-cases, Memᴰ·append-left, Memᴰ·append-right, List·Memᴰ·not-nil, List·Memᴰ·eq-of-singleton}
 use mathlib.Core.Logic.{_⊎_, inl, inr}
 use Prim.Native.Nat.{ℕ, zero, suc, _+_, _*_, _≤_, _<_}
 use native.Mathlib.Omega.{arith}
 use lib.Dec.{eqb, leb}
 use borrow.Author.Tests.{ne-eqb, eqb-true, eqb-false, leb-false}
-use Rattle.rules.specs.Archive.{byteAt, linkAt, kindOf, recordAt}
+use Rattle.rules.specs.Archive.{byteAt, kindOf, recordAt}
 use Rattle.rules.specs.Links.{Link, link, isKind, headLinks, ownedBy, linksOf, isLinkByte, ownedAt, linksAt, standsAt, linkPlaces}
 use Rattle.rules.proofs.Lists.{Apart, apart-wider, apart-append, apart-within, in-map, of-map}
 

@@ -9,7 +9,7 @@ use Rattle.rules.specs.Outcome.{Outcome, refused, given, _>>=_, _>>_, re
 use Rattle.rules.specs.Refusals.{badLink, wrongKind, noPlant, noMeasure}
 use Rattle.rules.specs.Archive.{recordAt, usedOf, Entry, entryAt, follow, nextOf, atPlace, plantKind, measureKind, firstPlant, firstMeasure}
 use Rattle.rules.specs.Settle.{Place, placeOf, Settlement, settled}
-use Rattle.rules.proofs.Inversion.{Holds, holds-refused, holds-given, both-left, both-right}
+use Rattle.rules.proofs.Inversion.{both-left, both-right}
 
 -- ---- what holds of each answer holds of the whole
 
@@ -46,12 +46,6 @@ module _ (archive : List ℕ) (used kind : ℕ) where
       cond-answers P (eqb link 0) _ _ none
       (follow-answers (λ o. P (o >>= λ e. atPlace archive used kind missing (suc place) (e .number) (nextOf (e .bytes)))) holder link two three (λ e rises below.
       at-place-answers P missing (suc place) (e .number) (nextOf (e .bytes)) none two three (λ e′ above below′. met e′ (omega arith) below′)))
-
-  pub at-place-below : (missing place holder link : ℕ)
-      → Holds (λ e. (holder + place ≤ e .number) × (e .number < used)) (atPlace archive used kind missing place holder link)
-  at-place-below missing place holder link =
-      at-place-answers (Holds (λ e. (holder + place ≤ e .number) × (e .number < used))) missing place holder link
-      (holds-refused missing) (holds-refused badLink) (holds-refused wrongKind) (λ e above below. holds-given e (above, below))
 
 -- P holds of each answer at a plant place p and a measure place k
 pub record Answers {A : Type 0} (P : Outcome A → Type 0) (used p k : ℕ) : Type 0 where

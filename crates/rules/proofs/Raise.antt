@@ -1,7 +1,7 @@
 -- Demand 3 of two calls: where some measured powers or limits of a measure's quarters are higher, no running total is.
 use mathlib.Core.Path.{_≡_, refl, sym, _∙_, ap, subst}
-use mathlib.Core.Bool.{Bool, true, false, cond, _&&_, _||_}
-use mathlib.Core.List.{List, [], _∷_, _++_, map}
+use mathlib.Core.Bool.{Bool, true, false, cond, _&&_, _||_, or-true}
+use mathlib.Core.List.{List, [], _∷_, map}
 use Prim.Native.Nat.{ℕ, zero, suc, _+_, _≤_, _<_}
 use native.Mathlib.Omega.{arith}
 use borrow.Author.Tests.{eqb-true, eq-eqb}
@@ -15,7 +15,7 @@ use Rattle.rules.specs.Refusals.{settleRefusals}
 use Rattle.rules.specs.Numbers.{sumℤ, member, mapFrom}
 use Rattle.rules.specs.Archive.{byteAt, linkAt, fieldAt, recordAt, kindOf, nextOf, isText, usedOf, Entry, entryAt, follow, chainFrom, chain}
 use Rattle.rules.specs.Terms.{Quarter, quarterOf, directionOf, executionOf}
-use Rattle.rules.specs.Settle.{Place, placeOf, Basis, quarterChain, quartersRead, quartersOf, measureDenominator, Settlement, settlementOf, settle, Answer, answerOf, listAfter}
+use Rattle.rules.specs.Settle.{Place, placeOf, Basis, quarterChain, quartersRead, measureDenominator, Settlement, settlementOf, settle, Answer, answerOf, listAfter}
 use Rattle.rules.specs.Fractions.{quarterNumbers, Raised}
 use Rattle.rules.specs.Promises.{Settles}
 use Rattle.rules.specs.Demands.{RunningTotalsFall}
@@ -83,10 +83,6 @@ word-same : (r s : List ℕ) (at : ℕ) → byteAt r at ≡ byteAt s at → byte
     → byteAt r (at + 3) ≡ byteAt s (at + 3) → fieldAt r at ≡ fieldAt s at
 unfolding fieldAt linkAt
 word-same r s at e₀ e₁ e₂ e₃ = rw (e₀, e₁, e₂, e₃)
-
-or-true : (t : Bool) → (t || true) ≡ true
-or-true true = refl
-or-true false = refl
 
 here : (n : ℕ) (ns : List ℕ) → member n (n ∷ ns) ≡ true
 here n ns = rw (eq-eqb n n refl)

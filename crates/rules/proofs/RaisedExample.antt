@@ -1,20 +1,18 @@
 -- Two archives that demand 3 compares: case a, and the same with the first quarter's measured power 1 W higher.
 use mathlib.Core.Path.{_≡_, refl, sym, _∙_, ap, subst}
-use mathlib.Core.Bool.{Bool, true, false, _||_}
+use mathlib.Core.Bool.{Bool, true, false}
 use mathlib.Core.List.{List, [], _∷_}
 use Prim.Native.Nat.{ℕ}
 use native.Mathlib.Decide.{ℕ-discrete}
-use borrow.Author.Tests.{eqb-true}
-use lib.Dec.{T, eqb}
+use lib.Dec.{T}
 use lib.IntN.{pos}
 use lib.Signed.{leZ, leZ-yes}
 use lib.ListN.{set}
 use lib.Seq.{getD-set-other}
-use Rattle.rules.specs.Numbers.{member, all}
 use Rattle.rules.specs.Archive.{byteAt, fieldAt, recordAt}
 use Rattle.rules.specs.Fractions.{quarterNumbers, isReading, Raised}
 use Rattle.rules.specs.Figures.{caseA, settling, settles, settlesA}
-use Rattle.rules.proofs.Sound.{both}
+use Rattle.rules.proofs.Lists.{at-member}
 use Rattle.rules.proofs.Figures.{rules}
 
 -- the low byte of record 4's measured power, 500,001
@@ -24,15 +22,6 @@ higher = set caseA 136 0x22
 pub both-settle : (settling caseA 1 1 3 ≡ settlesA) × (settling higher 1 1 3 ≡ settles 3 (pos 224998) 6 (pos 74999 ∷ pos 75000 ∷ pos 74999 ∷ []))
 unfolding rules higher
 both-settle = (refl, refl)
-
--- a test that all pass, at one of them
-at-member : (test : ℕ → Bool) (l : List ℕ) (n : ℕ) → all test l ≡ true → member n l ≡ true → test n ≡ true
-at-member test [] n a m = cc
-at-member test (k ∷ l) n a m = let t = both (test k) (all test l) a in go (eqb n k) refl m (t .0) (at-member test l n (t .1))
-  where
-    go : (t : Bool) → eqb n k ≡ t → (t || member n l) ≡ true → test k ≡ true → (member n l ≡ true → test n ≡ true) → test n ≡ true
-    go true e m′ first rest = rw (eqb-true n k e) first
-    go false e m′ first rest = rest m′
 
 -- the field at a byte of record n isn't lower
 no-lower : ℕ → ℕ → Bool

@@ -1,25 +1,24 @@
 -- After an append to a sound archive every chain reads as before, but for its links; the new record ends the chain that it was filed on.
 use mathlib.Core.Path.{_≡_, refl, sym, _∙_, ap, ap₂, subst}
-use mathlib.Core.Bool.{Bool, true, false, cond, _&&_, _||_}
-use mathlib.Core.List.{List, [], _∷_, _++_, map, append-nil, List·Memᴰ, List·Memᴰ·head, List·Memᴰ·tail, List·Memᴰ·not-nil}
-use mathlib.Core.Logic.{_⊎_, inl, inr}
-use Prim.Native.Nat.{ℕ, zero, suc, _+_, _*_, _-_, _/_, _≤_, _<_}
+use mathlib.Core.Bool.{Bool, true, false, cond, _&&_}
+use mathlib.Core.List.{List, [], _∷_, _++_, map, append-nil, List·Memᴰ}
+use Prim.Native.Nat.{ℕ, _+_, _*_, _≤_, _<_}
 use native.Mathlib.Omega.{arith}
 use lib.Dec.{eqb, ltb}
 use lib.ListN.{length}
-use borrow.Author.Tests.{eqb-true, eqb-false, eq-eqb, ne-eqb, ltb-true, ltb-false, lt-ltb, le-ltb}
-use Rattle.rules.specs.Outcome.{Outcome, refused, given, _>>=_, _>>_, require}
-use Rattle.rules.specs.Archive.{byteAt, linkAt, kindOf, recordAt, usedOf, Entry, entryAt, chain}
-use Rattle.rules.specs.Links.{Link, link, isKind, ownedBy, linksOf, ownedAt, linksAt, standsAt, linkPlaces}
-use Rattle.rules.specs.Filing.{offsetIn, offsetFor, append}
+use borrow.Author.Tests.{eqb-true, eqb-false, eq-eqb, ne-eqb, ltb-true, ltb-false, lt-ltb}
+use Rattle.rules.specs.Outcome.{Outcome, refused, given, _>>=_}
+use Rattle.rules.specs.Archive.{linkAt, kindOf, recordAt, Entry, entryAt}
+use Rattle.rules.specs.Links.{Link, link, linksOf, linksAt}
+use Rattle.rules.specs.Filing.{offsetFor}
 use Rattle.rules.specs.ReadBack.{unlinked, butLinks, readUnder}
 use Rattle.rules.proofs.Bytes.{record-length}
-use Rattle.rules.proofs.Places.{links-same, links-within, links-at, at-within, owned-at, owned-in, one-place, next-in, stands-in}
-use Rattle.rules.proofs.Sound.{Head, head-room, Well}
+use Rattle.rules.proofs.Places.{links-same, links-within, links-at, owned-at, owned-in, one-place, next-in, stands-in}
+use Rattle.rules.proofs.Sound.{head-room, Well}
 use Rattle.rules.proofs.Runs.{Runs, lastAt, runs-chain, last-above, Reach, here, step, last-reached, reach-in, Starts, one-chain, link-runs}
-use Rattle.rules.proofs.Write.{Wrote}
-use Rattle.rules.proofs.Append.{New, Owned, offset-owned, Appending, Last, last, owned, writing, byte-kept, start-kept, kind-kept, links-kept, owned-kept, link-kept, new-zero, well-after}
-use Rattle.rules.proofs.Unlinked.{Outside, unlinked-zero, unlinked-same}
+use Rattle.rules.proofs.Owners.{offset-unused}
+use Rattle.rules.proofs.Append.{Owned, offset-owned, Appending, last, owned, writing, byte-kept, start-kept, kind-kept, links-kept, owned-kept, link-kept, new-zero, well-after}
+use Rattle.rules.proofs.Unlinked.{unlinked-zero, unlinked-same}
 
 pub map-append : {A B : Type 0} (f : A → B) (l m : List A) → map f (l ++ m) ≡ map f l ++ map f m
 map-append f [] m = refl
@@ -67,10 +66,6 @@ pub listed-runs : (archive : List ℕ) (used owner kind offset : ℕ) (ns : List
     → listed archive used owner kind ≡ map butLinks (map (entryAt archive) ns)
 unfolding listed
 listed-runs archive used owner kind offset ns o r = ap entriesOf (read-runs archive used owner kind offset ns o r)
-
-pub offset-none : (own used kind : ℕ) (x : List ℕ) → used ≤ own → offsetFor x used own kind ≡ refused 15
-unfolding offsetFor _>>_ require
-offset-none own used kind x h = rw (le-ltb own used h)
 
 module _ (archive : List ℕ) (owner : ℕ) (new after : List ℕ) (a : Appending archive owner new after) where
   -- ---- records
@@ -246,4 +241,4 @@ module _ (archive : List ℕ) (owner : ℕ) (new after : List ℕ) (a : Appendin
         go true e = used (ltb-true own (a .used) e) (offsetFor archive (a .used) own kind) refl (eqb owner own) (eqb (kindOf new) kind) refl refl
         go false e =
             let h = ltb-false own (a .used) e in
-            nothing (not-own h) (unused h (offsetFor after (a .used + 1) own kind) refl ∙ sym (listed-none archive (a .used) own kind 15 (offset-none own (a .used) kind archive h)))
+            nothing (not-own h) (unused h (offsetFor after (a .used + 1) own kind) refl ∙ sym (listed-none archive (a .used) own kind 15 (offset-unused archive (a .used) own kind h)))

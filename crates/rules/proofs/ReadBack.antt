@@ -1,27 +1,27 @@
 -- Records filed one by one into a fresh archive are read again along their chains, in that order, each as filed but for its links.
-use mathlib.Core.Path.{_≡_, refl, sym, _∙_, ap, ap₂, subst}
-use mathlib.Core.Bool.{Bool, true, false, cond, _&&_, _||_}
-use mathlib.Core.List.{List, [], _∷_, _++_, map, append-nil, append-assoc, List·Memᴰ, List·Memᴰ·head, List·Memᴰ·tail, List·Memᴰ·not-nil, List·Memᴰ·cases-cons, List·Memᴰ·eq-of-singleton}
+use mathlib.Core.Path.{_≡_, refl, sym, _∙_, ap, subst}
+use mathlib.Core.Bool.{Bool, true, false, cond, _&&_}
+use mathlib.Core.List.{List, [], _∷_, _++_, map, append-nil, append-assoc, List·Memᴰ, List·Memᴰ·not-nil, List·Memᴰ·cases-cons, List·Memᴰ·eq-of-singleton}
 use mathlib.Core.Logic.{_⊎_, inl, inr}
 use Prim.Native.Nat.{ℕ, zero, suc, _+_, _*_, _-_, _/_, _≤_, _<_}
 use native.Mathlib.Omega.{arith}
-use lib.Dec.{eqb, ltb}
+use lib.Dec.{eqb}
 use lib.ListN.{length, getD, replicate, length-replicate}
 use borrow.Author.Tests.{lt-ltb}
 use Rattle.rules.specs.Outcome.{Outcome, refused, given, _>>=_, _>>_, require}
-use Rattle.rules.specs.Archive.{byteAt, linkAt, kindOf, recordAt, isWhole, usedOf, Entry, entryAt, chain}
-use Rattle.rules.specs.Links.{Link, link, linksOf, isLinkByte, linksAt, standsAt, namers}
-use Rattle.rules.specs.Filing.{freshBytes, fresh, newAllowed, offsetFor, lastPlace, appendAfter, append}
-use Rattle.rules.specs.Audit.{Sound}
-use Rattle.rules.specs.ReadBack.{Filing, fileAll, filedUnder, unlinked, butLinks, readUnder, readBack, noFiling, Filed}
+use Rattle.rules.specs.Archive.{byteAt, linkAt, kindOf, recordAt, isWhole, Entry, entryAt}
+use Rattle.rules.specs.Links.{Link, linksOf, isLinkByte, linksAt}
+use Rattle.rules.specs.Filing.{freshBytes, fresh, offsetFor, lastPlace, appendAfter, append}
+use Rattle.rules.specs.ReadBack.{Filing, fileAll, filedUnder, unlinked, butLinks, readUnder, readBack, noFiling}
 use Rattle.rules.specs.Demands.{ReadAgain, StaysSound, Files}
 use Rattle.rules.proofs.Bytes.{record-length}
 use Rattle.rules.proofs.Places.{links-within, link-bytes}
 use Rattle.rules.proofs.Unlinked.{unlinked-byte}
-use Rattle.rules.proofs.Sound.{bind-both, head-room, required, whole-length, Head, head-used, Leads, ends, leads, Stored, Well, well-sound, sound-well}
+use Rattle.rules.proofs.Inversion.{given-inj}
+use Rattle.rules.proofs.Sound.{bind-both, head-room, required, whole-length, Head, head-used, Leads, ends, Stored, Well, well-sound, sound-well}
 use Rattle.rules.proofs.Runs.{Runs, runs-chain}
-use Rattle.rules.proofs.Append.{Appending, append-says, Owned, offset-owned, owned, writing, well-after, append-sound}
-use Rattle.rules.proofs.Read.{reads, read-runs, entriesOf, listed, listed-none, listed-runs, offset-none, new-unlinked, unlinked-kept, offset-kept, filedHere, listed-after}
+use Rattle.rules.proofs.Append.{Appending, append-says, offset-owned, writing, well-after}
+use Rattle.rules.proofs.Read.{reads, read-runs, listed, listed-none, listed-runs, new-unlinked, unlinked-kept, offset-kept, filedHere, listed-after}
 
 -- ---- a fresh archive
 
@@ -135,10 +135,7 @@ pub filed-on : (filings : List Filing) (archive end : List ℕ) (used : ℕ) →
 unfolding fileAll
 filed-on [] archive end used well e =
     let z : used ≡ used + 0 = omega arith in
-    subst (λ (x : List ℕ). Grown archive used [] x (used + 0)) (same e) (subst (λ (n : ℕ). Grown archive used [] archive n) z (nothing-filed archive used well))
-  where
-    same : {x y : List ℕ} → given x ≡ given y → x ≡ y
-    same p = cc
+    subst (λ (x : List ℕ). Grown archive used [] x (used + 0)) (given-inj e) (subst (λ (n : ℕ). Grown archive used [] archive n) z (nothing-filed archive used well))
 filed-on (s ∷ filings) archive end used well e =
     let b = bind-both (append archive (s .owner) (s .bytes)) _ e in
     let a = append-says archive (s .owner) (s .bytes) (b .0) (b .1) in
@@ -154,10 +151,7 @@ filed-on (s ∷ filings) archive end used well e =
 
 start-is : (archive start : List ℕ) → fresh archive ≡ given start → (isWhole (length archive) ≡ true) × (freshBytes (length archive) ≡ start)
 unfolding fresh
-start-is archive start e = let a = required (isWhole (length archive)) 1 _ e in (a .0, same (a .1))
-  where
-    same : {x y : List ℕ} → given x ≡ given y → x ≡ y
-    same p = cc
+start-is archive start e = let a = required (isWhole (length archive)) 1 _ e in (a .0, given-inj (a .1))
 
 -- what is listed is what is read back, wherever the owner has the chain
 listed-back : (archive : List ℕ) (used : ℕ) → Well archive used → (own kind : ℕ) (l : List Entry) → listed archive used own kind ≡ l
@@ -211,8 +205,11 @@ read-again archive start end filings e f =
     fits : (i : ℕ) → i < length filings → 32 * (1 + length filings) ≤ length end → 32 * (1 + i) + 32 ≤ length end
     fits i h r = omega arith
 
+-- append on a sound archive keeps it sound
 pub stays-sound : StaysSound
-stays-sound archive later owner new s e = append-sound archive owner new later s e
+stays-sound archive later owner new s e =
+    let a = append-says archive owner new later e in
+    well-sound later (a .used + 1) (well-after archive owner new later a (sound-well archive (a .used) (head-used archive (a .used) (a .head)) s))
 
 pub files : Files
 unfolding append _>>=_ _>>_ require

@@ -1,23 +1,21 @@
 -- Demand 1: every call gives an answer or a refusal with one of its own numbers, and a refused call changes nothing.
 use mathlib.Core.Path.{_≡_, refl, sym, _∙_, ap, subst}
-use mathlib.Core.Bool.{Bool, true, false, cond, _||_, false≢true}
+use mathlib.Core.Bool.{Bool, true, false, cond, _||_, false≢true, true≢false}
 use mathlib.Core.List.{List, [], _∷_}
 use Prim.Native.Nat.{ℕ, zero, suc}
 use borrow.Author.Tests.{eqb-true}
 use lib.Dec.{eqb}
-use lib.IntN.{ℤ}
 use lib.ListN.{length}
 use Rattle.rules.specs.Outcome.{Outcome, refused, given, _>>=_, _>>_, require, numberOf, after}
 use Rattle.rules.specs.Refusals.{notArchive, badLink, wrongKind, settleRefusals, appendRefusals, auditRefusals}
 use Rattle.rules.specs.Numbers.{member}
 use Rattle.rules.specs.Archive.{linkAt, usedOf, nextOf, Entry, follow, atPlace, chainFrom, chain}
 use Rattle.rules.specs.Terms.{Technology, wind, solar, other, Variant, spitz, pauschal, Point, Before}
-use Rattle.rules.specs.Settle.{Place, Basis, placeOf, pointsOf, beforesOf, windBasis, firstMarked, solarBasis, pauschalBasis, basisBy, basisOf, quartersOf, Settlement, settled, settle, Answer, answerOf}
+use Rattle.rules.specs.Settle.{Place, Basis, placeOf, pointsOf, beforesOf, windBasis, firstMarked, solarBasis, pauschalBasis, basisBy, quartersOf, Settlement, settled, settle, Answer, answerOf}
 use Rattle.rules.specs.Host.{hostSettle}
 use Rattle.rules.specs.Links.{Link, ownedAt, linksAt, standsAt}
 use Rattle.rules.specs.Filing.{fresh, offsetIn, offsetFor, append}
 use Rattle.rules.specs.Audit.{linkChecked, linksChecked, recordChecked, recordsChecked, audit}
-use Rattle.rules.specs.Promises.{Settles, HostSettles, Freshens, Appends}
 use Rattle.rules.specs.Demands.{RefusedWithin, EveryCallAnswers, RefusalsChangeNothing}
 
 -- ---- along the parts of a definition
@@ -215,17 +213,10 @@ every-call-answers = record {
 
 -- ---- a refused call changes nothing
 
-no-clash : true ≡ false → ⊥
-no-clash e = subst IsTrue e tt
-  where
-    IsTrue : Bool → Type 0
-    IsTrue true = Unit {0}
-    IsTrue false = ⊥
-
 -- no refusal has the number 0, so a call that returns 0 gave its answer
 pub given-by-number : {A : Type 0} (ns : List ℕ) → member 0 ns ≡ false → (o : Outcome A) → RefusedWithin ns o → numberOf o ≡ 0 → (a : A) × (o ≡ given a)
 given-by-number ns none (refused n) h e =
-    absurd (no-clash (sym (h .of n refl) ∙ ap (λ (x : ℕ). member x ns) e ∙ none))
+    absurd (true≢false (sym (h .of n refl) ∙ ap (λ (x : ℕ). member x ns) e ∙ none))
 given-by-number ns none (given a) h e = (a, refl)
 
 -- every later content is `after` an outcome, whatever the call

@@ -1,21 +1,21 @@
 -- Chains as lists of numbers, the places that they pass, and that no place is passed by two chains of a sound archive.
 use mathlib.Core.Path.{_≡_, refl, sym, _∙_, ap, subst}
-use mathlib.Core.Bool.{Bool, true, false, cond, _&&_, _||_}
-use mathlib.Core.List.{List, [], _∷_, _++_, map, List·Memᴰ, List·Memᴰ·head, List·Memᴰ·tail, List·Memᴰ·not-nil, Memᴰ·cast}
+use mathlib.Core.Bool.{Bool, true, false, cond}
+use mathlib.Core.List.{List, [], _∷_, map, List·Memᴰ, Memᴰ·cast}
 use Prim.Native.Nat.{ℕ, zero, suc, _+_, _*_, _≤_, _<_}
 use native.Mathlib.Omega.{arith}
-use lib.Dec.{eqb, eqb→eq, ltb→lt, ltb}
-use lib.ListN.{length}
-use borrow.Author.Tests.{eqb-true, eqb-false, eq-eqb, ne-eqb, ltb-true}
-use Rattle.rules.specs.Outcome.{Outcome, refused, given, _>>=_, _>>_, require}
+use lib.Dec.{eqb, ltb}
+use borrow.Author.Tests.{eqb-true, eq-eqb, ltb-true}
+use Rattle.rules.specs.Outcome.{Outcome, refused, given, _>>=_}
 use Rattle.rules.specs.Archive.{linkAt, kindOf, nextOf, recordAt, Entry, entryAt, follow, chainFrom, chain}
 use Rattle.rules.proofs.Chains.{chain-ends, chain-goes, follow-met}
-use Rattle.rules.specs.Links.{Link, link, isKind, linksAt, ownedAt, standsAt, linkPlaces, namers}
+use Rattle.rules.specs.Links.{Link, link, linksAt, standsAt, linkPlaces, namers}
 use Rattle.rules.specs.Filing.{lastPlace}
 use Rattle.rules.proofs.Bytes.{link-of}
 use Rattle.rules.proofs.Lists.{in-keep, one-only}
 use Rattle.rules.proofs.Places.{stands-in, in-stands, next-in, Stands}
-use Rattle.rules.proofs.Sound.{bind-both, required, both, Leads, ends, leads, Stored, Well}
+use Rattle.rules.proofs.Inversion.{given-inj}
+use Rattle.rules.proofs.Sound.{bind-both, required, both, Leads, ends, leads, Well}
 
 -- the place of the last link of a chain
 abbrev pub lastAt : ℕ → List ℕ → ℕ
@@ -47,10 +47,7 @@ module _ (archive : List ℕ) (used kind : ℕ) where
       let a = required _ 2 _ e in
       let b = required _ 3 _ (a .1) in
       let c = both (ltb holder link) (ltb link used) (a .0) in
-      (ltb-true holder link (c .0), ltb-true link used (c .1), eqb-true _ kind (b .0), same (b .1))
-    where
-      same : {x y : Entry} → given x ≡ given y → x ≡ y
-      same p = cc
+      (ltb-true holder link (c .0), ltb-true link used (c .1), eqb-true _ kind (b .0), given-inj (b .1))
 
   run-steps : (steps holder place : ℕ) (es : List Entry) → chainFrom archive used kind steps holder (linkAt archive place) ≡ given es
       → (ns : List ℕ) × Runs holder place ns × (es ≡ map (entryAt archive) ns)
@@ -76,12 +73,9 @@ module _ (archive : List ℕ) (used kind : ℕ) where
           let a = bind-both (follow archive used kind holder (linkAt archive place)) _ e in
           let m = follow-says holder (linkAt archive place) (a .0) (a .1) in
           let b = bind-both (chainFrom archive used kind steps (a .0 .number) (nextOf (a .0 .bytes))) _ (a .2) in
-          more (linkAt archive place) (a .0) (b .0) refl (m .0) (m .1) (m .2) (m .3) (listed (b .2))
+          more (linkAt archive place) (a .0) (b .0) refl (m .0) (m .1) (m .2) (m .3) (given-inj (b .2))
           (rest (linkAt archive place) (b .0) (shift (linkAt archive place) (a .0) (b .0) (m .3) (b .1)))
         where
-          listed : {x y : List Entry} → given x ≡ given y → x ≡ y
-          listed p = cc
-
           shift : (n : ℕ) (k : Entry) (fs : List Entry) → entryAt archive n ≡ k → chainFrom archive used kind steps (k .number) (nextOf (k .bytes)) ≡ given fs
               → chainFrom archive used kind steps n (linkAt archive (32 * n + 4)) ≡ given fs
           shift n k fs d e =

@@ -1,15 +1,17 @@
 -- What a settlement was made from.
 use mathlib.Core.Path.{_≡_, refl, _∙_, ap}
-use mathlib.Core.List.{List, [], _∷_, map}
-use Prim.Native.Nat.{ℕ, suc, _+_}
+use mathlib.Core.List.{List, [], _∷_}
+use Prim.Native.Nat.{ℕ, suc, _+_, _≤_}
+use native.Mathlib.Omega.{arith}
+use lib.Dec.{leb, leb→le}
 use lib.ListN.{length, length-map}
-use Rattle.rules.specs.Outcome.{given, numberOf}
-use Rattle.rules.specs.Refusals.{settleRefusals}
+use Rattle.rules.specs.Outcome.{given}
 use Rattle.rules.specs.Archive.{Entry}
 use Rattle.rules.specs.Terms.{Quarter, Direction, directionOf}
-use Rattle.rules.specs.Booking.{signed, bookedFrom, amountsOf}
+use Rattle.rules.specs.Booking.{bookedFrom, amountsOf}
 use Rattle.rules.specs.Settle.{Place, placeOf, Basis, basisOf, quarterChain, quartersRead, quartersOf, exactsOf, measureDenominator, Settlement, settlementOf, settled, settle}
-use Rattle.rules.proofs.Inversion.{Holds, holds-bind, holds-require, holds-given}
+use Rattle.rules.proofs.Inversion.{Holds, holds-bind, holds-require, holds-given, both-left, both-right}
+use Rattle.rules.proofs.Lists.{map-from-length}
 
 pub record MadeFrom (archive : List ℕ) (p k : ℕ) (s : Settlement) : Type 0 where
   pub place : Place
@@ -41,6 +43,22 @@ pub read-from : (archive : List ℕ) (place : Place) (basis : Basis) → Holds (
 unfolding quartersOf
 read-from archive place basis =
     holds-bind _ _ (λ es e. holds-require _ 8 _ (λ t. holds-require _ 9 _ (λ t. holds-given _ (record { entries = es; are = e; read = refl }))))
+
+-- a measure has 1 to 2,976 quarters
+pub record Counted (n : ℕ) : Type 0 where
+  pub some : 1 ≤ n
+  pub few : n ≤ 2976
+
+pub quarters-counted : (archive : List ℕ) (place : Place) (basis : Basis) → Holds (λ (quarters : List Quarter). Counted (length quarters)) (quartersOf archive place basis)
+unfolding quartersOf
+quarters-counted archive place basis =
+    holds-bind _ _ (λ es e. holds-require _ 8 _ (λ t. holds-require _ 9 _ (λ u. holds-given _ (record {
+      some = omega (arith, read-length es, leb→le 1 (length es) (both-left (leb 1 (length es)) (leb (length es) 2976) t));
+      few = omega (arith, read-length es, leb→le (length es) 2976 (both-right (leb 1 (length es)) (leb (length es) 2976) t));
+    }))))
+  where
+    read-length : (es : List Entry) → length (quartersRead place es) ≡ length es
+    read-length es = map-from-length _ 0 es
 
 -- an amount for each quarter
 booked-length : (d before : ℕ) (ms : List ℕ) → length (bookedFrom d before ms) ≡ length ms

@@ -2,16 +2,16 @@
 use mathlib.Core.Path.{_≡_, refl, sym, _∙_, ap, subst}
 use mathlib.Core.Bool.{Bool, true, false, cond, _&&_, _||_}
 use mathlib.Core.List.{List, [], _∷_, List·Memᴰ, List·Memᴰ·head, List·Memᴰ·tail, List·Memᴰ·not-nil}
-use mathlib.Core.Logic.{_⊎_, inl, inr}
-use Prim.Native.Nat.{ℕ, zero, suc, _+_, _*_, _/_, _%_, _≤_, _<_}
+use Prim.Native.Nat.{ℕ, zero, suc, _*_, _/_, _%_, _≤_, _<_}
 use native.Mathlib.Omega.{arith}
-use lib.Dec.{T, eqb, leb, ltb}
+use lib.Dec.{eqb, leb, ltb}
 use lib.ListN.{length}
 use borrow.Author.Tests.{eqb-true, eqb-false, eq-eqb, ne-eqb, leb-true, le-leb, ltb-true, lt-ltb}
 use Rattle.rules.specs.Outcome.{Outcome, refused, given, _>>=_, _>>_, require}
-use Rattle.rules.specs.Archive.{byteAt, linkAt, kindOf, recordAt, isText, isWhole, usedOf, follow}
+use Rattle.rules.specs.Archive.{linkAt, kindOf, recordAt, isText, isWhole, usedOf, follow}
 use Rattle.rules.specs.Links.{Link, isKind, linksAt, standsAt, namers}
 use Rattle.rules.specs.Audit.{linkChecked, linksChecked, recordChecked, recordsChecked, namedOnce, audit, Sound}
+use Rattle.rules.proofs.Inversion.{given-inj}
 use Rattle.rules.proofs.Bytes.{link-of}
 
 -- ---- outcomes taken apart
@@ -55,7 +55,7 @@ used-head archive used e =
     let a = required _ 1 _ e in
     let b = required _ 1 _ (a .1) in
     let c = required _ 1 _ (b .1) in
-    let count : linkAt (recordAt archive 0) 4 ≡ used = same (c .1) in
+    let count : linkAt (recordAt archive 0) 4 ≡ used = given-inj (c .1) in
     let d = both (leb 1 (linkAt (recordAt archive 0) 4)) _ (c .0) in
     record {
       whole = a .0;
@@ -64,9 +64,6 @@ used-head archive used e =
       some = leb-true 1 used (ap (λ (n : ℕ). leb 1 n) (sym count) ∙ d .0);
       room = leb-true used (length archive / 32) (ap (λ (n : ℕ). leb n (length archive / 32)) (sym count) ∙ d .1);
     }
-  where
-    same : {x y : ℕ} → given x ≡ given y → x ≡ y
-    same p = cc
 
 pub head-used : (archive : List ℕ) (used : ℕ) → Head archive used → usedOf archive ≡ given used
 unfolding usedOf _>>_ require
@@ -88,7 +85,7 @@ head-room archive used h = let w = whole-length (length archive) (h .whole) in l
 
 -- ---- links
 
-abbrev fine : Outcome (Unit {0})
+abbrev pub fine : Outcome (Unit {0})
 fine = given tt
 
 module _ (archive : List ℕ) (used : ℕ) where

@@ -7,10 +7,10 @@ use native.Mathlib.Omega.{arith}
 use lib.IntN.{ℤ, pos, negℤ, natAbs, _+ℤ_, _-ℤ_, _*ℤ_, negℤ-+ℤ}
 use lib.Signed.{quotZ}
 use lib.ListN.{take, drop}
-use Rattle.rules.specs.Numbers.{sum, sumℤ, orZero}
+use Rattle.rules.specs.Numbers.{sum, sumℤ}
 use Rattle.rules.specs.Terms.{Direction, positive, negative}
 use Rattle.rules.specs.Booking.{signed, bookedFrom, amountsOf, carriedFrom}
-use Rattle.rules.proofs.Ints.{under, orZero-minus, under-minus, orZero-times, under-times, natAbs-parts, orZero-neg, under-neg}
+use Rattle.rules.proofs.Ints.{orZero-minus, under-minus, orZero-times, under-times, natAbs-parts, orZero-neg, under-neg}
 
 -- `n` of the elements from the one at `i` on
 abbrev pub portion : {A : Type 0} → ℕ → ℕ → List A → List A
@@ -77,11 +77,6 @@ sum-signed negative [] = refl
 sum-signed positive [] = refl
 sum-signed negative (n ∷ ns) = ap (λ z. pos n +ℤ z) (sum-signed negative ns)
 sum-signed positive (n ∷ ns) = ap (λ z. negℤ (pos n) +ℤ z) (sum-signed positive ns) ∙ sym (negℤ-+ℤ (pos n) (pos (sum ns)))
-
--- the two parts of a signed number
-orZero-signed : (s : Direction) (n : ℕ) → orZero (signed s n) + under (signed s n) ≡ n
-orZero-signed negative n = omega arith
-orZero-signed positive n = omega (arith, orZero-neg (pos n), under-neg (pos n))
 
 signed-near : (s : Direction) (d a m : ℕ) → Near d a m → natAbs (signed s a *ℤ pos d -ℤ signed s m) < d
 signed-near negative d a m h =

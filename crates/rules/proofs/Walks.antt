@@ -54,7 +54,6 @@ module _ (archive : List ℕ) (used kind : ℕ) where
   -- a record found at a place of a chain: links rise, so its number is above its holder's by the place or more
   pub record Placed (holder place : ℕ) (e : Entry) : Type 0 where
     pub is : e ≡ entryAt archive (e .number)
-    pub some : 1 ≤ place
     pub above : holder + place ≤ e .number
     pub below : e .number < used
 
@@ -64,7 +63,6 @@ module _ (archive : List ℕ) (used kind : ℕ) where
       let i : link ≡ e .number = ap (λ x. x .number) (s .3) in
       record {
         is = sym (s .3) ∙ ap (entryAt archive) i;
-        some = omega arith;
         above = omega (arith, s .0);
         below = omega (arith, s .1);
       }
@@ -87,4 +85,4 @@ module _ (archive : List ℕ) (used kind : ℕ) where
           let b = bind-both (follow archive used kind holder link) _ q in
           let f = first-placed holder link (b .0) (b .1) in
           let r = rest (b .0 .number) (nextOf (b .0 .bytes)) e (b .2) in
-          record { is = r .is; some = omega arith; above = omega arith; below = r .below }
+          record { is = r .is; above = omega arith; below = r .below }

@@ -1,10 +1,9 @@
 -- From the basis of a measure to its settlement, by what the curve and the before-quarters gave.
-use mathlib.Core.Path.{_≡_, refl, sym, _∙_, ap, ap₂, subst}
+use mathlib.Core.Path.{_≡_, refl, sym, _∙_, ap, subst}
 use mathlib.Core.Bool.{true}
 use mathlib.Core.List.{List, [], _∷_}
-use Prim.Native.Nat.{ℕ, zero, suc, _+_, _≤_}
+use Prim.Native.Nat.{ℕ, zero, suc, _≤_}
 use native.Mathlib.Omega.{arith}
-use lib.Dec.{leb→le}
 use lib.IntN.{ℤ, pos}
 use lib.ListN.{length, length-map, getD, replicate}
 use Rattle.rules.specs.Outcome.{Outcome, refused, given, _>>=_}
@@ -16,7 +15,7 @@ use Rattle.rules.specs.declared.Variant.{Variant}
 use Rattle.rules.specs.declared.Variant.the-variants.{Spitz as spitz, Pauschal as pauschal}
 use Rattle.rules.specs.Terms.{Point, Before, pointOf, plantAllowed, technologyOf, variantOf, nominalPower}
 use Rattle.rules.specs.Reference as book
-use Rattle.rules.specs.Settle.{Place, Basis, placeOf, pointsOf, beforesOf, marked, windBasis, firstMarked, pauschalBasis, solarBasis, basisBy, basisOf, Settlement, settled}
+use Rattle.rules.specs.Settle.{Place, Basis, placeOf, pointsOf, windBasis, firstMarked, pauschalBasis, solarBasis, basisBy, basisOf, Settlement, settled}
 use Rattle.rules.proofs.Inversion.{Holds, holds-bind, holds-refused, holds-require, holds-given}
 use Rattle.rules.proofs.Chains.{chain-few}
 use Rattle.units.specs.declared.Watt.{Watt}
@@ -28,8 +27,8 @@ use Rattle.energy.specs.References.{meaning, UpTo, Bounded}
 use Rattle.basis.specs.declared.Based.{Based}
 use Rattle.basis.specs.declared.Based.the-variants as based
 use Rattle.basis.specs.Based.{held, basedAnswer, windOf, solarOf}
-use Rattle.basis.proofs.Laws.{based-on, based-none, HeldAs, basis-held}
-use Rattle.quarters.specs.Exacts.{Curved}
+use Rattle.basis.proofs.Laws.{based-on, HeldAs, befores-few, basis-held}
+use Rattle.exact.specs.Exacts.{Curved}
 use Rattle.settle.specs.declared.Prepared.{Prepared}
 use Rattle.settle.specs.declared.Prepared.the-variants as prepared
 use Rattle.settle.specs.Answers.{Prepares, settledOn, OffCurve, BasedOffCurve, HeldWell}
@@ -41,11 +40,6 @@ unfolding pointsOf
 points-few archive place =
     holds-bind _ _ (λ entries e. holds-require _ 9 _ (λ t. holds-require _ 10 _ (λ u.
     holds-given _ (omega (arith, length-map entries (λ e. pointOf (e .bytes)), chain-few archive (place .used) 2 _ _ .of entries e)))))
-
-befores-few : (archive : List ℕ) (place : Place) → Holds (λ entries. length entries ≤ 96) (beforesOf archive place)
-unfolding beforesOf
-befores-few archive place =
-    holds-bind _ _ (λ entries e. holds-require _ 8 _ (λ t. holds-require _ 9 _ (λ u. holds-given _ (leb→le (length entries) 96 t))))
 
 wind-few : (pn : ℕ) (points : List Point) (entries : List Entry) → length points ≤ 65535 → length entries ≤ 96
     → Holds (λ b. b .links ≤ 131072) (windBasis pn points entries)

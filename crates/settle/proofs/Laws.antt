@@ -25,6 +25,14 @@ same-answer : (count count′ : ℕ) (total total′ : ℤ) (links links′ : �
     → _≡_ {A = Answer} (record { number = 0; count = count; total = total; links = links }) (record { number = 0; count = count′; total = total′; links = links′ })
 same-answer count count′ total total′ links links′ c t l = rw (c, t, l)
 
+-- a sheet that has a place for each quarter that a list of so many places can take
+module _ {o : Outcome Settlement} {sheet : List ℕ} {m : Measure} (s : Stands o sheet m) {places : ℕ} (room : min places 2976 ≤ length sheet) (h : m .count ≤ places) where
+  pub in-sheet : m .count ≤ length sheet
+  in-sheet = omega (arith, s .few)
+
+  pub sheet-length : length (take (m .count) sheet) ≡ m .count
+  sheet-length = length-take-le (m .count) sheet in-sheet
+
 module _ (archive : List ℕ) (p k : ℕ) (list : List ℤ) where
   -- an outcome of settle known whole
   by-outcome : (o : Outcome Settlement) (later : List ℤ) (a : Answer) → settle archive p k (length list) ≡ o → a ≡ answerOf o → later ≡ listAfter o list
@@ -51,16 +59,9 @@ module _ (archive : List ℕ) (p k : ℕ) (list : List ℤ) where
     unfolding settle _>>=_ _>>_ require
     placed h = rw (s .is, le-leb (countOf (s .settlement)) (length list) (omega (arith, s .counted)))
 
-    -- a sheet that has a place for each quarter that the list can take
     module _ (room : min (length list) 2976 ≤ length sheet) (h : m .count ≤ length list) where
-      pub in-sheet : m .count ≤ length sheet
-      in-sheet = omega (arith, s .few)
-
-      pub sheet-length : length (take (m .count) sheet) ≡ m .count
-      sheet-length = length-take-le (m .count) sheet in-sheet
-
       pub list-long : length (take (m .count) sheet) ≤ length list
-      list-long = omega (arith, sheet-length)
+      list-long = omega (arith, sheet-length s room h)
 
       -- the amounts booked into the list's first places, and their sum
       pub settles-given : (later : List ℤ) (count : ℕ) (total : WattHour) (links : ℕ)
@@ -73,12 +74,12 @@ module _ (archive : List ℕ) (p k : ℕ) (list : List ℤ) where
           (l ∙ same-list)
         where
           amounts : s .settlement .amounts ≡ amountsOf (m .direction) (m .denominator) (take (m .count) sheet)
-          amounts = s .amounts-are in-sheet
+          amounts = s .amounts-are (in-sheet s room h)
 
           same-list : (amountsOf (m .direction) (m .denominator) (take (m .count) sheet) ++ drop (length (take (m .count) sheet)) list)
               ≡ s .settlement .amounts ++ drop (countOf (s .settlement)) list
           same-list =
-              ap (λ (n : ℕ). amountsOf (m .direction) (m .denominator) (take (m .count) sheet) ++ drop n list) (sheet-length ∙ sym (s .counted))
+              ap (λ (n : ℕ). amountsOf (m .direction) (m .denominator) (take (m .count) sheet) ++ drop n list) (sheet-length s room h ∙ sym (s .counted))
               ∙ ap (λ (x : List ℤ). x ++ drop (countOf (s .settlement)) list) (sym amounts)
 
 -- ---- by the answer of the tests

@@ -1,35 +1,19 @@
 -- A measure ready to be booked, from the walk over its quarters.
-use mathlib.Core.Path.{_≡_, refl, sym, _∙_, ap, subst}
-use mathlib.Core.Bool.{Bool, true, _&&_}
-use mathlib.Core.List.{List, [], _∷_}
-use Prim.Native.Nat.{ℕ, suc, _+_, _*_, _/_, _^_, _≤_, _<_}
+use mathlib.Core.Path.{_≡_, refl, sym, _∙_, ap}
+use mathlib.Core.List.{List}
+use Prim.Native.Nat.{ℕ, _+_, _^_, _≤_, _<_}
 use native.Mathlib.Omega.{arith}
-use lib.Dec.{leb, leb→le}
 use lib.ListN.{length, take, length-map}
 use Rattle.rules.specs.Outcome.{Outcome, refused, given, _>>=_}
-use Rattle.rules.specs.declared.Direction.{Direction}
-use Rattle.rules.specs.Numbers.{sum, mapFrom}
-use Rattle.rules.specs.Terms.{Quarter, quarterOf, directionOf}
-use Rattle.rules.specs.Booking.{amountsOf}
+use Rattle.rules.specs.Terms.{Quarter, directionOf}
 use Rattle.rules.specs.Settle.{Place, Basis, quartersOf, measureDenominator, exactsOf, settlementOf}
-use Rattle.rules.proofs.Settled.{amounts-length}
-use Rattle.rules.proofs.Inversion.{Holds, holds-bind, holds-require, holds-given, both-right}
+use Rattle.rules.proofs.Settled.{quarters-counted, amounts-length}
 use Rattle.quarters.specs.declared.Walked.{Walked}
 use Rattle.quarters.specs.declared.Walked.the-variants as walked
 use Rattle.quarters.specs.Walks.{walkedAnswer, WalkedBy}
 use Rattle.settle.specs.declared.Measure.{Measure}
 use Rattle.settle.specs.declared.Prepared.the-variants as prepared
-use Rattle.settle.specs.Answers.{Stands, Prepares, settledOn}
-
-map-from-length : {A B : Type 0} (f : ℕ → A → B) (i : ℕ) (l : List A) → length (mapFrom f i l) ≡ length l
-map-from-length f i [] = refl
-map-from-length f i (a ∷ l) = ap suc (map-from-length f (i + 1) l)
-
-quarters-few : (archive : List ℕ) (place : Place) (basis : Basis) → Holds (λ quarters. length quarters ≤ 2976) (quartersOf archive place basis)
-unfolding quartersOf
-quarters-few archive place basis =
-    holds-bind _ _ (λ entries e. holds-require _ 8 _ (λ t. holds-require _ 9 _ (λ u.
-    holds-given _ (omega (arith, map-from-length (λ index e. quarterOf (place .measure .bytes) index (e .bytes)) 0 entries, leb→le (length entries) 2976 (both-right (leb 1 (length entries)) (leb (length entries) 2976) t))))))
+use Rattle.settle.specs.Answers.{Prepares, settledOn}
 
 module _ (archive : List ℕ) (place : Place) (basis : Basis) (sheet : List ℕ) (x : Walked) (w : WalkedBy archive place basis sheet x) where
   pub walk-refused : (n : ℕ) → x ≡ walked.Refused n → Prepares (settledOn archive place (given basis)) sheet (prepared.Refused n)
@@ -54,7 +38,7 @@ module _ (archive : List ℕ) (place : Place) (basis : Basis) (sheet : List ℕ)
       go (refused k) q f = let z : _≡_ {A = ℕ} 0 1 = cc in absurd (omega arith)
       go (given quarters) q f =
           let i : count ≡ length quarters = cc in
-          record { quarters = quarters; are = q; is = i; few = omega (arith, quarters-few archive place basis .of quarters q) }
+          record { quarters = quarters; are = q; is = i; few = omega (arith, quarters-counted archive place basis .of quarters q .few) }
 
   pub stands : (m : Measure) → Counted (m .count) → m .direction ≡ directionOf (place .measure .bytes) → m .denominator ≡ measureDenominator basis
       → m .links ≡ place .links + basis .links + m .count → 0 < m .denominator → m .denominator ≤ 2 ^ 63

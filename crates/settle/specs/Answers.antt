@@ -15,7 +15,7 @@ use Rattle.energy.specs.References.{meaning, Bounded}
 use Rattle.basis.specs.declared.Based.{Based}
 use Rattle.basis.specs.declared.Based.the-variants as based
 use Rattle.basis.specs.Based.{held}
-use Rattle.quarters.specs.Exacts.{Curved}
+use Rattle.exact.specs.Exacts.{Curved}
 use Rattle.settle.specs.declared.Settled.{Settled}
 use Rattle.settle.specs.declared.Settled.the-variants as answer
 use Rattle.settle.specs.declared.Measure.{Measure}

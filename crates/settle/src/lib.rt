@@ -14,7 +14,7 @@ ghost use Rattle.rules.specs.Promises.{Settles};
 ghost use Rattle.place.specs.Places.{meant, Lies};
 ghost use Rattle.curve.specs.Tables.{Low};
 ghost use Rattle.energy.specs.References.{meaning, Bounded};
-ghost use Rattle.quarters.specs.Exacts.{Curved, Tabled};
+ghost use Rattle.exact.specs.Exacts.{Curved, Tabled};
 ghost use Rattle.basis.specs.Based.{basedAnswer};
 ghost use Rattle.settle.specs.Answers.{answered, preparedNumber, Prepares, settledOn, OffCurve, BasedOffCurve, HeldWell};
 use basis::Based;
@@ -72,7 +72,7 @@ fn measured(
         Walked::Refused(n) => Prepared::Refused(n),
         Walked::Count(count) => {
             let m = place.measure as usize;
-            let direction = place::terms::direction_of(&archive[32 * m..32 * m + 32]);
+            let direction = terms::direction_of(&archive[32 * m..32 * m + 32]);
             let measure = Measure {
                 direction,
                 denominator: 4 * energy::reference::denominator(reference),
@@ -155,8 +155,8 @@ fn from_basis(archive: &[u8], place: Place, sheet: &mut [u64]) -> Prepared
 {
     let i = place.plant as usize;
     let plant = &archive[32 * i..32 * i + 32];
-    let technology = place::terms::technology_of(plant);
-    let variant = place::terms::variant_of(plant);
+    let technology = terms::technology_of(plant);
+    let variant = terms::variant_of(plant);
     match technology {
         Technology::Wind => match variant {
             Variant::Spitz => wind_spitz(archive, place, sheet),
@@ -170,7 +170,7 @@ fn from_basis(archive: &[u8], place: Place, sheet: &mut [u64]) -> Prepared
         Technology::Solar => match variant {
             Variant::Spitz => from_before(archive, place, basis::solar(archive, place), sheet),
             Variant::Pauschal => {
-                let pn = place::terms::nominal_power(plant);
+                let pn = terms::nominal_power(plant);
                 off_curve(archive, place, Reference::ByFactor(pn), 0, sheet)
             }
         },

@@ -4,11 +4,13 @@ use mathlib.Core.List.{List}
 use Prim.Native.Nat.{_-_, _≤_, _<_}
 use native.Mathlib.Omega.{arith}
 use borrow.Author.Needs.{needs}
+use lib.Dec.{lit≤}
+use Rattle.rules.proofs.Parts.{start-fits, end-fits, end-within, start-end, part-size}
 use Rattle.rules.specs.Archive.{beforeKind, chain}
 use Rattle.rules.specs.Terms.{Point}
 use Rattle.rules.proofs.Chains.{record-part}
 use Rattle.rules.proofs.Folds.{gatheredFrom}
-use Rattle.archive.proofs.Laws.{Met, met, no-at}
+use Rattle.archive.proofs.Laws.{Met, met, no-at, link-nearer}
 use Rattle.place.specs.Places.{meant}
 use Rattle.basis.specs.Sums.{Curved, start, steppedBy, RoomIn}
 use Rattle.basis.proofs.Walks.{walk-turn, walk-ended, walk-refused}
@@ -35,16 +37,16 @@ abbrev μ-loop : tie.MeasureT-loop
 μ-loop archive purpose curve table used last₀ link₀ walk₀ last link walk = used - last
 
 link-of-requires : tie.Need-link-of-requires Inv-loop μ-loop
-link-of-requires c κs = search needs
+link-of-requires c κs = (end-within (c .before .before .pre .0 .measure-used) (c .before .before .pre .0 .room), lit≤ tt)
 
 loop-holds : tie.Need-loop-holds Inv-loop μ-loop
 loop-holds c = ((λ points t. refl), omega arith, omega arith, record { room = record { few = omega arith; low-a = omega arith; low-b = omega arith }; used = omega arith })
 
 follow-requires : tie.Need-follow-requires Inv-loop μ-loop
-follow-requires c κs = search needs
+follow-requires c κs = c .before .before .before .before .before .pre .0 .room
 
 enum-known-answer : tie.Need-enum-known-answer Inv-loop μ-loop
-enum-known-answer c = search needs
+enum-known-answer c = c .match .keys1
 
 refusal-of-requires : tie.Need-refusal-of-requires Inv-loop μ-loop
 refusal-of-requires c κs = search needs
@@ -67,35 +69,35 @@ met-at c =
     met (c .before .before .before .before .before .before .before .before .before .args .archive .now) (c .before .before .before .before .before .before .before .before .before .args .place .used) beforeKind (c .before .before .before .before .before .loop .last) (c .before .before .before .before .before .loop .link) (c .before .before .before .follow .result) (c .before .before .before .follow .ensures) (c .before .answer .given .0 .0) (c .before .answer .given .1)
 
 mul-step : tie.Need-mul-step Inv-loop μ-loop
-mul-step c = let m = met-at c in omega arith
+mul-step c = start-fits (met-at c .below) (c .before .before .before .before .before .before .before .before .before .pre .0 .few)
 
 mul-step-2 : tie.Need-mul-step-2 Inv-loop μ-loop
-mul-step-2 c = let m = met-at c in omega arith
+mul-step-2 c = start-fits (met-at c .below) (c .before .before .before .before .before .before .before .before .before .pre .0 .few)
 
 add-step : tie.Need-add-step Inv-loop μ-loop
-add-step c = let m = met-at c in omega arith
+add-step c = end-fits (met-at c .below) (c .before .before .before .before .before .before .before .before .before .pre .0 .few)
 
 sub-step : tie.Need-sub-step Inv-loop μ-loop
-sub-step c = omega arith
+sub-step c = start-end _
 
 part-step-start : tie.Need-part-step-start Inv-loop μ-loop
-part-step-start c = search needs
+part-step-start c = start-end _
 
 part-step-end : tie.Need-part-step-end Inv-loop μ-loop
-part-step-end c = let m = met-at c in search needs
+part-step-end c = end-within (met-at c .below) (c .before .before .before .before .before .before .before .before .before .pre .0 .room)
 
 step-requires : tie.Need-step-requires Inv-loop μ-loop
 step-requires c κs =
     let p = c .before .before .before .before .before .before .before .before .before .before in
     let l = c .before .before .before .before .before .before .loop in
     let m = met-at (c .before) in
-    (p .pre .1, (l .inv .3, (omega arith, search needs)))
+    (p .pre .1, (l .inv .3, (omega arith, part-size _ (c .step-arg .given .2))))
 
 link-of-requires-2 : tie.Need-link-of-requires-2 Inv-loop μ-loop
-link-of-requires-2 c κs = let m = met-at (c .before .before) in omega arith
+link-of-requires-2 c κs = (end-within (met-at (c .before .before) .below) (c .before .before .before .before .before .before .before .before .before .before .before .pre .0 .room), lit≤ tt)
 
 loop-less : tie.Need-loop-less Inv-loop μ-loop
-loop-less c = let m = met-at (c .before .before .before) in omega arith
+loop-less c = let m = met-at (c .before .before .before) in link-nearer (m .rises) (m .below)
 
 loop-again : tie.Need-loop-again Inv-loop μ-loop
 loop-again c =

@@ -4,7 +4,7 @@ use Prim.Native.Nat.{ℕ, _≤_}
 use lib.IntN.{pos}
 use Rattle.rules.specs.Numbers.{orZero}
 use native.Mathlib.Omega.{arith}
-use borrow.Author.Needs.{needs}
+use Rattle.rules.proofs.Parts.{start-fits, end-fits, end-within, start-end, part-size}
 use Rattle.rules.specs.Terms.{nominalPower, plantAllowed}
 use Rattle.rules.proofs.Chains.{record-part}
 use Rattle.place.specs.Places.{meant}
@@ -13,27 +13,27 @@ use Rattle.basis.proofs.wind.Statement.{statement}
 use Rattle.basis.proofs.wind.Tie as tie
 
 mul-nominal-power : tie.Need-mul-nominal-power
-mul-nominal-power c = search needs
+mul-nominal-power c = start-fits (c .before .before .pre .0 .plant-used) (c .before .before .pre .0 .few)
 
 mul-nominal-power-2 : tie.Need-mul-nominal-power-2
-mul-nominal-power-2 c = search needs
+mul-nominal-power-2 c = start-fits (c .before .before .pre .0 .plant-used) (c .before .before .pre .0 .few)
 
 add-nominal-power : tie.Need-add-nominal-power
-add-nominal-power c = search needs
+add-nominal-power c = end-fits (c .before .before .pre .0 .plant-used) (c .before .before .pre .0 .few)
 
 sub-nominal-power : tie.Need-sub-nominal-power
-sub-nominal-power c = search needs
+sub-nominal-power c = start-end _
 
 part-nominal-power-start : tie.Need-part-nominal-power-start
-part-nominal-power-start c = search needs
+part-nominal-power-start c = start-end _
 
 part-nominal-power-end : tie.Need-part-nominal-power-end
-part-nominal-power-end c = search needs
+part-nominal-power-end c = end-within (c .before .before .pre .0 .plant-used) (c .before .before .pre .0 .room)
 
 nominal-power-requires : tie.Need-nominal-power-requires
 nominal-power-requires c κs =
     let p = c .before .before .before in
-    (search needs, ap plantAllowed (record-part (p .args .archive .now) (p .args .place .plant)) ∙ p .pre .1 .0)
+    (part-size _ (c .nominal-power-arg .given .2), ap plantAllowed (record-part (p .args .archive .now) (p .args .place .plant)) ∙ p .pre .1 .0)
 
 unsigned-requires : tie.Need-unsigned-requires
 unsigned-requires c κs = c .nominal-power .ensures .0 ∙ ap (λ (n : ℕ). pos n) (sym (ap orZero (c .nominal-power .ensures .0)))
@@ -42,10 +42,12 @@ gather-requires : tie.Need-gather-requires
 gather-requires c κs =
     let q = c .before .nominal-power in
     let n = natural-told (c .unsigned .result) _ (q .result .0) (c .unsigned .ensures) (q .ensures .0) in
-    let low : c .unsigned .result ≤ 1000000000 = omega (arith, n .0, q .ensures .1) in search needs
+    let low : c .unsigned .result ≤ 1000000000 = omega (arith, n .0, q .ensures .1) in
+    let p = c .before .before .before .before .before .pre in
+    (p .0, (low, p .1 .1 .0, p .1 .1 .1))
 
 enum-known-four : tie.Need-enum-known-four
-enum-known-four c = search needs
+enum-known-four c = c .match .keys1
 
 returns : tie.Need-returns
 returns c =
@@ -92,7 +94,7 @@ add-t25 c =
     omega (arith, p .pre .1 .1 .2, room .1)
 
 enum-known-n : tie.Need-enum-known-n
-enum-known-n c = search needs
+enum-known-n c = c .match .keys2
 
 returns-3 : tie.Need-returns-3
 returns-3 c =

@@ -3,11 +3,10 @@
 use mathlib.Core.Path.{_≡_, refl, sym, _∙_}
 use mathlib.Core.Logic.{inl, inr, ⊎-elim}
 use Prim.Native.Nat.{_-_, _≤_}
-use borrow.Author.Needs.{needs}
 use native.Mathlib.Omega.{arith}
 use lib.ListN.{length, length-set}
 use Rattle.curve.specs.Steps.{point, filled}
-use Rattle.curve.proofs.Line.{OnLine, Turned, line-starts, line-power, line-turn, power-low, part-low, step-low}
+use Rattle.curve.proofs.Line.{OnLine, Piece, Turned, on-from, on-until, on-nearer, line-starts, line-power, line-turn, rest-fits, step-fits, power-fits}
 use Rattle.curve.proofs.Fills.{filled-turn, filled-done}
 use Rattle.curve.proofs.fill.Statement.{statement}
 use Rattle.curve.proofs.fill.Tie as tie
@@ -24,6 +23,10 @@ Inv-loop table₀ s0 p0 s1 p1 width change step part speed₀ power₀ rest₀ t
 
 abbrev μ-loop : tie.MeasureT-loop
 μ-loop table₀ s0 p0 s1 p1 width change step part speed₀ power₀ rest₀ table speed power rest = s1 - speed
+
+-- the two points follow one another
+piece : (c : lts.Start reads.Pre reads.Post Inv-loop μ-loop) → Piece (point (c .args .s0) (c .args .p0)) (point (c .args .s1) (c .args .p1))
+piece c = record { rises = c .pre .1; left = c .pre .2; right = c .pre .3 }
 
 sub-width : tie.Need-sub-width Inv-loop μ-loop
 sub-width c = omega arith
@@ -55,31 +58,25 @@ slice-write-table : tie.Need-slice-write-table Inv-loop μ-loop
 slice-write-table c = omega arith
 
 add-rest : tie.Need-add-rest Inv-loop μ-loop
-add-rest c =
-    let a = c .before .before .args in
-    omega (arith, c .before .loop .inv .3 .part, part-low {a = point (a .s0) (a .p0)} {b = point (a .s1) (a .p1)} (search needs))
+add-rest c = rest-fits (piece (c .before .before)) (c .before .loop .inv .3)
 
 add-power : tie.Need-add-power Inv-loop μ-loop
 add-power c =
-    let a = c .before .before .before .args in
     let l = c .before .before .loop in
-    omega (arith, power-low {a = point (a .s0) (a .p0)} {b = point (a .s1) (a .p1)} (search needs) (l .speed) (l .power) (l .rest) (omega arith) (omega arith) (l .inv .3))
+    power-fits (piece (c .before .before .before)) (l .speed) (l .power) (l .rest) (l .inv .1) (c .before .loop-test .taken) (l .inv .3)
 
 turned : (c : lts.After-row-known reads.Pre reads.Post Inv-loop μ-loop) →
     let a = c .before .before .before .before .args in
     let l = c .before .before .before .loop in
     Turned (point (a .s0) (a .p0)) (point (a .s1) (a .p1)) (l .speed) (c .before .if1 .power) (c .before .if1 .rest)
 turned c =
-    let a = c .before .before .before .before .args in
     let l = c .before .before .before .loop in
-    line-turn {a = point (a .s0) (a .p0)} {b = point (a .s1) (a .p1)} (search needs) (l .speed) (l .power) (l .rest) (omega arith) (omega arith) (l .inv .3)
+    line-turn (piece (c .before .before .before .before)) (l .speed) (l .power) (l .rest) (l .inv .1) (c .before .before .loop-test .taken) (l .inv .3)
     (c .before .if1 .power) (c .before .if1 .rest)
     (⊎-elim (λ w. inl (w .0 .taken, w .1, w .2)) (λ w. inr (w .0 .left, w .1, w .2)) (c .before .if1 .came))
 
 add-power-2 : tie.Need-add-power-2 Inv-loop μ-loop
-add-power-2 c =
-    let a = c .before .before .before .before .args in
-    omega (arith, turned c .low, step-low {a = point (a .s0) (a .p0)} {b = point (a .s1) (a .p1)} (search needs))
+add-power-2 c = step-fits (piece (c .before .before .before .before)) (turned c)
 
 sub-power : tie.Need-sub-power Inv-loop μ-loop
 sub-power c = turned c .room
@@ -88,17 +85,17 @@ add-speed : tie.Need-add-speed Inv-loop μ-loop
 add-speed c = omega arith
 
 loop-less : tie.Need-loop-less Inv-loop μ-loop
-loop-less c = omega arith
+loop-less c = on-nearer (c .before .before .loop-test .taken)
 
 loop-again : tie.Need-loop-again Inv-loop μ-loop
 loop-again c =
     let a = c .before .before .before .before .args in
     let l = c .before .before .before .loop in (
       l .inv .0
-          ∙ filled-turn (point (a .s0) (a .p0)) (point (a .s1) (a .p1)) (a .s1) (l .speed) (l .power) (l .table) (omega arith)
+          ∙ filled-turn (point (a .s0) (a .p0)) (point (a .s1) (a .p1)) (a .s1) (l .speed) (l .power) (l .table) (c .before .before .loop-test .taken)
           (line-power (point (a .s0) (a .p0)) (point (a .s1) (a .p1)) (l .speed) (l .power) (l .rest) (l .inv .3)),
-      omega arith,
-      omega arith,
+      on-from (l .inv .1),
+      on-until (c .before .before .loop-test .taken),
       turned c .next,
       simp length-set (l .inv .4),
     )
@@ -110,7 +107,7 @@ returns : tie.Need-returns Inv-loop μ-loop
 returns c =
     let a = c .before .before .args in
     let l = c .before .loop in
-    sym (l .inv .0 ∙ filled-done (point (a .s0) (a .p0)) (point (a .s1) (a .p1)) (a .s1) (l .speed) (l .table) (omega arith))
+    sym (l .inv .0 ∙ filled-done (point (a .s0) (a .p0)) (point (a .s1) (a .p1)) (a .s1) (l .speed) (l .table) (c .loop-test .left))
 
 pub fill-spec : {M : Type 1} → statement M
 fill-spec =

@@ -4,11 +4,13 @@ use mathlib.Core.Path.{_≡_, refl, _∙_}
 use Prim.Native.Nat.{_-_, _≤_, _<_}
 use native.Mathlib.Omega.{arith}
 use borrow.Author.Needs.{needs}
+use lib.Dec.{lit≤}
 use lib.ListN.{length}
 use Rattle.rules.specs.Archive.{pointKind, chain}
 use Rattle.rules.proofs.Chains.{record-part}
+use Rattle.rules.proofs.Parts.{start-fits, end-fits, end-within, start-end, part-size}
 use Rattle.rules.proofs.Folds.{gatheredFrom}
-use Rattle.archive.proofs.Laws.{Met, met, no-at}
+use Rattle.archive.proofs.Laws.{Met, met, link-nearer, no-at}
 use Rattle.curve.specs.Steps.{InRange, walk, noPoints, lastRead}
 use Rattle.curve.proofs.Points.{stepped}
 use Rattle.curve.proofs.Walks.{turned, walk-ended, walk-refused}
@@ -34,16 +36,16 @@ abbrev μ-loop : tie.MeasureT-loop
 μ-loop archive table₀ used last₀ link₀ read₀ table last link read = used - last
 
 link-of-requires : tie.Need-link-of-requires Inv-loop μ-loop
-link-of-requires c κs = search needs
+link-of-requires c κs = (end-within (c .before .before .pre .0 .plant-used) (c .before .before .pre .0 .room), lit≤ tt)
 
 loop-holds : tie.Need-loop-holds Inv-loop μ-loop
 loop-holds c = (refl, omega arith, omega arith, record { low-speed = omega arith; low-power = omega arith }, refl)
 
 follow-requires : tie.Need-follow-requires Inv-loop μ-loop
-follow-requires c κs = search needs
+follow-requires c κs = c .before .before .before .before .before .pre .0 .room
 
 enum-known-answer : tie.Need-enum-known-answer Inv-loop μ-loop
-enum-known-answer c = search needs
+enum-known-answer c = c .match .keys1
 
 refusal-of-requires : tie.Need-refusal-of-requires Inv-loop μ-loop
 refusal-of-requires c κs = search needs
@@ -68,31 +70,33 @@ met-at c =
     (c .before .before .before .follow .ensures) (c .before .answer .given .0 .0) (c .before .answer .given .1)
 
 mul-read-point : tie.Need-mul-read-point Inv-loop μ-loop
-mul-read-point c = let m = met-at c in omega arith
+mul-read-point c = start-fits (met-at c .below) (c .before .before .before .before .before .before .before .before .before .pre .0 .few)
 
 mul-read-point-2 : tie.Need-mul-read-point-2 Inv-loop μ-loop
-mul-read-point-2 c = let m = met-at c in omega arith
+mul-read-point-2 c = start-fits (met-at c .below) (c .before .before .before .before .before .before .before .before .before .pre .0 .few)
 
 add-read-point : tie.Need-add-read-point Inv-loop μ-loop
-add-read-point c = let m = met-at c in omega arith
+add-read-point c = end-fits (met-at c .below) (c .before .before .before .before .before .before .before .before .before .pre .0 .few)
 
 sub-read-point : tie.Need-sub-read-point Inv-loop μ-loop
-sub-read-point c = omega arith
+sub-read-point c = start-end _
 
 part-read-point-start : tie.Need-part-read-point-start Inv-loop μ-loop
-part-read-point-start c = search needs
+part-read-point-start c = start-end _
 
 part-read-point-end : tie.Need-part-read-point-end Inv-loop μ-loop
-part-read-point-end c = let m = met-at c in search needs
+part-read-point-end c = end-within (met-at c .below) (c .before .before .before .before .before .before .before .before .before .pre .0 .room)
 
 read-point-requires : tie.Need-read-point-requires Inv-loop μ-loop
-read-point-requires c κs = let m = met-at (c .before .before) in search needs
+read-point-requires c κs =
+    let l = c .before .before .before .before .before .before .before .loop in
+    (part-size _ (c .before .read-point-arg .given .2), l .inv .4 ∙ c .before .before .before .before .before .before .before .before .before .before .before .pre .1 .0, omega arith, l .inv .3)
 
 link-of-requires-2 : tie.Need-link-of-requires-2 Inv-loop μ-loop
-link-of-requires-2 c κs = let m = met-at (c .before .before .before .before .before) in omega arith
+link-of-requires-2 c κs = (end-within (met-at (c .before .before .before .before .before) .below) (c .before .before .before .before .before .before .before .before .before .before .before .before .before .before .pre .0 .room), lit≤ tt)
 
 loop-less : tie.Need-loop-less Inv-loop μ-loop
-loop-less c = let m = met-at (c .before .before .before .before .before .before) in omega arith
+loop-less c = let m = met-at (c .before .before .before .before .before .before) in link-nearer (m .rises) (m .below)
 
 loop-again : tie.Need-loop-again Inv-loop μ-loop
 loop-again c =

@@ -1,14 +1,14 @@
 -- `filing::audit` meets its contract.
-use mathlib.Core.Path.{_≡_, sym, _∙_, ap}
+use mathlib.Core.Path.{_≡_, sym, _∙_}
 use mathlib.Core.Bool.{true, false}
-use native.Mathlib.Omega.{arith}
 use borrow.Author.Needs.{needs}
 use Rattle.rules.specs.Outcome.{given}
 use Rattle.rules.specs.Archive.{usedOf}
 use Rattle.rules.proofs.AppendSteps.{used-within}
+use Rattle.archive.proofs.Laws.{opened, unopened}
 use Rattle.marks.specs.Marks.{noMarks}
-use Rattle.marks.proofs.Laws.{no-marks}
-use Rattle.filing.proofs.Laws.{headOutcome, head-says, audit-unread, audit-refused, audit-done}
+use Rattle.marks.proofs.Laws.{no-marks, marks-long, marks-enough}
+use Rattle.filing.proofs.Laws.{audit-unread, audit-refused, audit-done}
 use Rattle.filing.proofs.audit.Statement.{statement}
 use Rattle.filing.proofs.audit.Tie as tie
 use Rattle.filing.proofs.audit.Reads as reads
@@ -30,7 +30,7 @@ claims = (
 used-is : (c : lts.After-used claims reads.Pre reads.Post) → usedOf (c .before .before .before .before .args .archive .now) ≡ given (c .used .given .0 .0)
 used-is c =
     let r = c .before .before .read-head in
-    head-says (r .result) (usedOf (c .before .before .before .before .args .archive .now)) (r .ensures) ∙ ap headOutcome (c .used .given .1)
+    opened (c .before .before .before .before .args .archive .now) (r .result) (r .ensures) _ (c .used .given .1) .is
 
 read-head-requires : tie.Need-read-head-requires
 read-head-requires c κs = search needs
@@ -45,10 +45,10 @@ returns : tie.Need-returns
 returns c =
     let r = c .before .before .before .read-head in
     let a = c .before .before .before .before .before .args in
-    audit-unread (a .archive .now) _ (head-says (r .result) (usedOf (a .archive .now)) (r .ensures) ∙ ap headOutcome (c .before .number .given .1))
+    audit-unread (a .archive .now) _ (unopened (a .archive .now) (r .result) (r .ensures) _ (c .before .number .given .1))
 
 slice-aggregate-check-records : tie.Need-slice-aggregate-check-records
-slice-aggregate-check-records c = search needs
+slice-aggregate-check-records c = sym marks-long
 
 check-records-requires : tie.Need-check-records-requires
 unfolding noMarks
@@ -59,13 +59,12 @@ unfolding noMarks
 returns-2 c = audit-refused (c .before .before .before .before .before .before .before .before .before .args .archive .now) _ (used-is (c .before .before .before .before .before)) _ _ (c .before .before .check-records .ensures) (c .if1 .taken)
 
 slice-aggregate-all-once : tie.Need-slice-aggregate-all-once
-slice-aggregate-all-once c = search needs
+slice-aggregate-all-once c = sym (c .before .before .before .check-records .kept .1 .1 .0 ∙ marks-long)
 
 all-once-requires : tie.Need-all-once-requires
-unfolding noMarks
 all-once-requires c κs =
     let w = used-within (c .before .before .before .before .before .before .before .before .before .before .args .archive .now) _ (used-is (c .before .before .before .before .before .before)) in
-    (w .0, omega (arith, c .before .before .before .check-records .kept .1 .1 .0, no-marks))
+    (w .0, marks-enough (w .2) (slice-aggregate-all-once c))
 
 returns-3 : tie.Need-returns-3
 unfolding noMarks

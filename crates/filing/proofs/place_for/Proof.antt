@@ -11,7 +11,8 @@ use Rattle.rules.proofs.Append.{allowed-new}
 use Rattle.rules.proofs.AppendSteps.{used-within, append-no-head, append-bad-record, append-bad-owner, append-bad-chain, append-full}
 use Rattle.archive.specs.declared.ChainEnd.{ChainEnd}
 use Rattle.filing.specs.Answers.{offsetOutcome}
-use Rattle.filing.proofs.Laws.{headOutcome, head-says, Ended, chain-says, walk-needs, placed}
+use Rattle.archive.proofs.Laws.{opened, unopened}
+use Rattle.filing.proofs.Laws.{Ended, chain-says, walk-needs, placed}
 use Rattle.filing.proofs.place_for.Statement.{statement}
 use Rattle.filing.proofs.place_for.Tie as tie
 use Rattle.filing.proofs.place_for.Reads as reads
@@ -39,7 +40,7 @@ claims = (
 used-is : (c : lts.After-used claims reads.Pre reads.Post) → usedOf (c .before .before .before .before .before .args .archive .now) ≡ given (c .used .given .0 .0)
 used-is c =
     let r = c .before .before .read-head in
-    head-says (r .result) (usedOf (c .before .before .before .before .before .args .archive .now)) (r .ensures) ∙ ap headOutcome (c .used .given .1)
+    opened (c .before .before .before .before .before .args .archive .now) (r .result) (r .ensures) _ (c .used .given .1) .is
 
 allowed : (c : lts.Else1 claims reads.Pre reads.Post) → newAllowed (c .before .before .before .before .before .before .before .before .args .new .now) ≡ true
 allowed c = sym (c .before .new-allowed .ensures) ∙ not-false _ (c .if1 .left)
@@ -71,7 +72,7 @@ returns : tie.Need-returns
 returns c =
     let a = c .before .before .before .before .before .before .args in
     let r = c .before .before .before .read-head in
-    append-no-head (a .archive .now) (a .owner) (a .new .now) _ (head-says (r .result) (usedOf (a .archive .now)) (r .ensures) ∙ ap headOutcome (c .before .number .given .1))
+    append-no-head (a .archive .now) (a .owner) (a .new .now) _ (unopened (a .archive .now) (r .result) (r .ensures) _ (c .before .number .given .1))
 
 new-allowed-requires : tie.Need-new-allowed-requires
 new-allowed-requires c κs = search needs

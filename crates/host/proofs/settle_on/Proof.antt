@@ -1,4 +1,4 @@
-use Rattle.settle.proofs.Laws.{ready}
+use Rattle.settle.proofs.Laws.{ready, in-sheet, sheet-length}
 use Rattle.rules.specs.Settle.{settled}
 -- `host::settle_on` meets its contract.
 use mathlib.Core.Path.{sym}
@@ -7,7 +7,7 @@ use native.Mathlib.Omega.{arith}
 use lib.ListN.{length}
 use borrow.Author.Needs.{needs}
 use Rattle.settle.specs.Answers.{Stands}
-use Rattle.host.proofs.Settling.{refusal-small, unready, list-short, result-wrong, in-sheet, sheet-length, list-long, all-written}
+use Rattle.host.proofs.Settling.{refusal-small, unready, list-short, result-wrong, list-long, all-written}
 use Rattle.host.proofs.settle_on.Statement.{statement}
 use Rattle.host.proofs.settle_on.Tie as tie
 use Rattle.host.proofs.settle_on.Reads as reads
@@ -91,12 +91,12 @@ returns-3 c =
 slice-reshare-prefix-book-bytes : tie.Need-slice-reshare-prefix-book-bytes
 slice-reshare-prefix-book-bytes c =
     let a = c .before .before .before .before .before .before .before .before .before .before .before .before .before in
-    in-sheet (a .args .archive .now) (a .args .p) (a .args .k) (a .args .list .now) (a .args .result .now) _ _ (stands (c .before .before .before)) (roomy (c .before .before .before)) (c .before .if1 .left)
+    in-sheet (stands (c .before .before .before)) (roomy (c .before .before .before)) (c .before .if1 .left)
 
 slice-aggregate-book-bytes : tie.Need-slice-aggregate-book-bytes
 slice-aggregate-book-bytes c =
     let a = c .before .before .before .before .before .before .before .before .before .before .before .before .before .before in
-    sym (sheet-length (a .args .archive .now) (a .args .p) (a .args .k) (a .args .list .now) (a .args .result .now) _ _ (stands (c .before .before .before .before)) (roomy (c .before .before .before .before)) (c .before .before .if1 .left))
+    sym (sheet-length (stands (c .before .before .before .before)) (roomy (c .before .before .before .before)) (c .before .before .if1 .left))
 
 book-bytes-requires : tie.Need-book-bytes-requires
 book-bytes-requires c κs =
@@ -106,7 +106,7 @@ book-bytes-requires c κs =
     let h = c .before .before .before .if1 .left in (
       s .positive,
       s .low,
-      s .fits (in-sheet (a .archive .now) (a .p) (a .k) (a .list .now) (a .result .now) _ _ s r h),
+      s .fits (in-sheet s r h),
       list-long (a .archive .now) (a .p) (a .k) (a .list .now) (a .result .now) _ _ s r h,
     )
 

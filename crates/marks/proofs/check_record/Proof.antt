@@ -3,12 +3,15 @@ use mathlib.Core.Path.{_≡_, refl, sym, _∙_, ap}
 use mathlib.Core.List.{List, [], _∷_, map}
 use Prim.Native.Nat.{ℕ}
 use borrow.Author.Needs.{needs}
+use lib.Dec.{lit≤}
+use lib.ListN.{length}
 use borrow.Author.Tests.{not-true, not-false}
 use Rattle.rules.specs.Outcome.{_>>_}
 use Rattle.rules.specs.Archive.{kindOf, recordAt}
 use Rattle.rules.specs.Links.{Link, link, ownedBy, standsAt}
 use Rattle.rules.specs.Audit.{linkChecked, linksChecked}
 use Rattle.rules.proofs.Chains.{record-part}
+use Rattle.rules.proofs.Parts.{start-fits, end-fits, end-within, start-end, part-size}
 use Rattle.marks.specs.Answers.{ownedLinks}
 use Rattle.marks.specs.Marks.{Checked}
 use Rattle.marks.proofs.Laws.{checked-none, then-stops, then-goes, checked-last, RecordChecked, head-done, unknown-done, known-done}
@@ -50,11 +53,15 @@ done c later r ls own k =
 owns : (c : lts.After-owned-by claims reads.Pre reads.Post) → ownedLinks (c .owned-by .result) ≡ ownedBy (recordAt (c .before .before .before .before .before .before .before .before .before .before .before .before .before .args .archive .now) (c .before .before .before .before .before .before .before .before .before .before .before .before .before .args .n))
 owns c = c .owned-by .ensures ∙ ap ownedBy (record-part (c .before .before .before .before .before .before .before .before .before .before .before .before .before .args .archive .now) (c .before .before .before .before .before .before .before .before .before .before .before .before .before .args .n))
 
+-- the table is as long as it was
+longer : (c : lts.After-check-link3 claims reads.Pre reads.Post) → length (c .check-link3 .last .1 .1 .1 .1 .1 .0) ≡ length (c .before .before .before .before .before .before .before .before .before .before .before .before .before .before .before .before .before .before .args .marks .now)
+longer c = c .check-link3 .kept .1 .1 .1 .1 .1 .0 ∙ c .before .before .before .before .before .before .before .before .before .check-link2 .kept .1 .1 .1 .1 .1 .0
+
 check-link-requires : tie.Need-check-link-requires
 check-link-requires c κs = search needs
 
 same-length : tie.Need-same-length
-same-length c = search needs
+same-length c = c .before .before .check-link .kept .1 .1 .1 .1 .1 .0
 
 returns : tie.Need-returns
 returns c =
@@ -62,25 +69,25 @@ returns c =
     head-done (a .archive .now) (a .used) (a .n) (a .marks .now) _ _ (c .before .before .before .before .if1 .taken) (c .before .before .check-link .ensures)
 
 mul-r : tie.Need-mul-r
-mul-r c = search needs
+mul-r c = start-fits (c .before .before .before .pre .1) (c .before .before .before .pre .2)
 
 mul-r-2 : tie.Need-mul-r-2
-mul-r-2 c = search needs
+mul-r-2 c = start-fits (c .before .before .before .pre .1) (c .before .before .before .pre .2)
 
 add-r : tie.Need-add-r
-add-r c = search needs
+add-r c = end-fits (c .before .before .before .pre .1) (c .before .before .before .pre .2)
 
 sub-r : tie.Need-sub-r
-sub-r c = search needs
+sub-r c = start-end _
 
 part-r-start : tie.Need-part-r-start
-part-r-start c = search needs
+part-r-start c = start-end _
 
 part-r-end : tie.Need-part-r-end
-part-r-end c = search needs
+part-r-end c = end-within (c .before .before .before .pre .1) (c .before .before .before .pre .0)
 
 kind-of-requires : tie.Need-kind-of-requires
-kind-of-requires c κs = search needs
+kind-of-requires c κs = part-size _ (c .r .given .2)
 
 is-kind-requires : tie.Need-is-kind-requires
 is-kind-requires c κs = search needs
@@ -91,35 +98,35 @@ returns-2 c =
     unknown-done (a .archive .now) (a .used) (a .n) (a .marks .now) _ (c .before .before .before .before .if1 .left) (c .before .before .kind-of .result) (kind-is (c .before .before)) (sym (c .before .is-kind .ensures) ∙ not-true _ (c .if2 .taken))
 
 check-link-requires-2 : tie.Need-check-link-requires-2
-check-link-requires-2 c κs = search needs
+check-link-requires-2 c κs = let p = c .before .before .before .before .before .before .before .before .pre in (p .0, p .1, lit≤ tt, p .2, p .3)
 
 same-length-2 : tie.Need-same-length-2
-same-length-2 c = search needs
+same-length-2 c = c .before .before .before .check-link2 .kept .1 .1 .1 .1 .1 .0
 
 returns-3 : tie.Need-returns-3
 returns-3 c = done (c .before .before .before .before .before) _ _ _ refl (then-stops _ (c .before .before .before .check-link2 .ensures) _ (c .if3 .taken))
 
 owned-by-requires : tie.Need-owned-by-requires
-owned-by-requires c κs = search needs
+owned-by-requires c κs = part-size _ (c .before .before .before .before .before .before .before .before .r .given .2)
 
 enum-known-first : tie.Need-enum-known-first
-enum-known-first c = search needs
+enum-known-first c = c .match .keys1
 
 enum-told : tie.Need-enum-told
-enum-told c = search needs
+enum-told c = c .match .keys2
 
 same-length-3 : tie.Need-same-length-3
-same-length-3 c = search needs
+same-length-3 c = c .before .before .before .before .before .before .check-link2 .kept .1 .1 .1 .1 .1 .0
 
 returns-4 : tie.Need-returns-4
 returns-4 c =
     done (c .before .before .before .before .before .before .before .before) _ _ [] (ap ownedLinks (sym (c .enum-told .given .1)) ∙ owns (c .before .before)) (then-goes _ (c .before .before .before .before .before .before .check-link2 .ensures) (c .before .before .before .if3 .left) (checked-none _ _))
 
 check-link-requires-3 : tie.Need-check-link-requires-3
-check-link-requires-3 c κs = search needs
+check-link-requires-3 c κs = let p = c .before .before .before .before .before .before .before .before .before .before .before .before .before .before .before .before .before .pre in (p .0, p .1, lit≤ tt, p .2, c .before .before .before .before .before .before .before .before .check-link2 .kept .1 .1 .1 .1 .1 .0 ∙ p .3)
 
 same-length-4 : tie.Need-same-length-4
-same-length-4 c = search needs
+same-length-4 c = longer (c .before .before .before)
 
 returns-5 : tie.Need-returns-5
 returns-5 c =
@@ -127,10 +134,10 @@ returns-5 c =
     (then-goes _ (c .before .before .before .before .before .before .before .before .before .before .before .before .check-link2 .ensures) (c .before .before .before .before .before .before .before .before .before .if3 .left) (then-stops _ (c .before .before .before .check-link3 .ensures) _ (c .if4 .taken)))
 
 check-link-requires-4 : tie.Need-check-link-requires-4
-check-link-requires-4 c κs = search needs
+check-link-requires-4 c κs = let p = c .before .before .before .before .before .before .before .before .before .before .before .before .before .before .before .before .before .before .before .before .before .before .pre in (p .0, p .1, lit≤ tt, p .2, longer (c .before .before .before .before) ∙ p .3)
 
 same-length-5 : tie.Need-same-length-5
-same-length-5 c = search needs
+same-length-5 c = c .before .before .check-link4 .kept .1 .1 .1 .1 .1 .0 ∙ longer (c .before .before .before .before .before .before .before)
 
 returns-6 : tie.Need-returns-6
 returns-6 c =

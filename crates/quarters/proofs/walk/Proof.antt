@@ -2,12 +2,13 @@
 use mathlib.Core.Path.{sym, _∙_, ap}
 use mathlib.Core.Bool.{Bool, _&&_}
 use Prim.Native.Nat.{_-_}
-use native.Mathlib.Omega.{arith}
+use lib.Dec.{lit≤}
 use borrow.Author.Needs.{needs}
 use borrow.Author.Tests.{not-true, not-false}
 use Rattle.rules.specs.Archive.{recordAt}
-use Rattle.archive.proofs.Laws.{no-at, met, chain-none}
-use Rattle.quarters.proofs.Walks.{state, Going, going-starts, going-on, walks-refused, walks-uncounted, walks-unreadable, walks-given}
+use Rattle.rules.proofs.Parts.{start-fits, end-fits, end-within, start-end, part-size}
+use Rattle.archive.proofs.Laws.{no-at, met, link-nearer, chain-none}
+use Rattle.quarters.proofs.Walks.{state, Going, going-starts, going-counts, going-on, walks-refused, walks-uncounted, walks-unreadable, walks-given}
 use Rattle.quarters.proofs.walk.Statement.{statement}
 use Rattle.quarters.proofs.walk.Tie as tie
 
@@ -20,64 +21,64 @@ abbrev μ-loop : tie.MeasureT-loop
     used - last
 
 mul-direction-of : tie.Need-mul-direction-of Inv-loop μ-loop
-mul-direction-of c = search needs
+mul-direction-of c = start-fits (c .before .before .before .pre .0 .measure-used) (c .before .before .before .pre .0 .few)
 
 mul-direction-of-2 : tie.Need-mul-direction-of-2 Inv-loop μ-loop
-mul-direction-of-2 c = search needs
+mul-direction-of-2 c = start-fits (c .before .before .before .pre .0 .measure-used) (c .before .before .before .pre .0 .few)
 
 add-direction-of : tie.Need-add-direction-of Inv-loop μ-loop
-add-direction-of c = search needs
+add-direction-of c = end-fits (c .before .before .before .pre .0 .measure-used) (c .before .before .before .pre .0 .few)
 
 sub-direction-of : tie.Need-sub-direction-of Inv-loop μ-loop
-sub-direction-of c = search needs
+sub-direction-of c = start-end _
 
 part-direction-of-start : tie.Need-part-direction-of-start Inv-loop μ-loop
-part-direction-of-start c = search needs
+part-direction-of-start c = start-end _
 
 part-direction-of-end : tie.Need-part-direction-of-end Inv-loop μ-loop
-part-direction-of-end c = search needs
+part-direction-of-end c = end-within (c .before .before .before .pre .0 .measure-used) (c .before .before .before .pre .0 .room)
 
 direction-of-requires : tie.Need-direction-of-requires Inv-loop μ-loop
-direction-of-requires c κs = search needs
+direction-of-requires c κs = part-size _ (c .direction-of-arg .given .2)
 
 mul-execution-of : tie.Need-mul-execution-of Inv-loop μ-loop
-mul-execution-of c = search needs
+mul-execution-of c = start-fits (c .before .before .before .before .before .pre .0 .measure-used) (c .before .before .before .before .before .pre .0 .few)
 
 mul-execution-of-2 : tie.Need-mul-execution-of-2 Inv-loop μ-loop
-mul-execution-of-2 c = search needs
+mul-execution-of-2 c = start-fits (c .before .before .before .before .before .pre .0 .measure-used) (c .before .before .before .before .before .pre .0 .few)
 
 add-execution-of : tie.Need-add-execution-of Inv-loop μ-loop
-add-execution-of c = search needs
+add-execution-of c = end-fits (c .before .before .before .before .before .pre .0 .measure-used) (c .before .before .before .before .before .pre .0 .few)
 
 sub-execution-of : tie.Need-sub-execution-of Inv-loop μ-loop
-sub-execution-of c = search needs
+sub-execution-of c = start-end _
 
 part-execution-of-start : tie.Need-part-execution-of-start Inv-loop μ-loop
-part-execution-of-start c = search needs
+part-execution-of-start c = start-end _
 
 part-execution-of-end : tie.Need-part-execution-of-end Inv-loop μ-loop
-part-execution-of-end c = search needs
+part-execution-of-end c = end-within (c .before .before .before .before .before .pre .0 .measure-used) (c .before .before .before .before .before .pre .0 .room)
 
 execution-of-requires : tie.Need-execution-of-requires Inv-loop μ-loop
-execution-of-requires c κs = search needs
+execution-of-requires c κs = part-size _ (c .execution-of-arg .given .2)
 
 link-of-requires : tie.Need-link-of-requires Inv-loop μ-loop
-link-of-requires c κs = search needs
+link-of-requires c κs = (end-within (c .before .before .before .before .before .before .before .pre .0 .measure-used) (c .before .before .before .before .before .before .before .pre .0 .room), lit≤ tt)
 
 loop-holds : tie.Need-loop-holds Inv-loop μ-loop
-loop-holds c = going-starts (omega arith) (c .link-of .ensures .0)
+loop-holds c = going-starts (c .before .before .before .before .before .before .before .before .pre .0 .measure-used) (c .link-of .ensures .0)
 
 follow-requires : tie.Need-follow-requires Inv-loop μ-loop
-follow-requires c κs = search needs
+follow-requires c κs = c .before .before .before .before .before .before .before .before .before .before .pre .0 .room
 
 enum-known-answer : tie.Need-enum-known-answer Inv-loop μ-loop
-enum-known-answer c = search needs
+enum-known-answer c = c .match .keys1
 
 refusal-of-requires : tie.Need-refusal-of-requires Inv-loop μ-loop
 refusal-of-requires c κs = search needs
 
 same-length : tie.Need-same-length Inv-loop μ-loop
-same-length c = search needs
+same-length c = c .before .before .before .before .loop .inv .size
 
 returns : tie.Need-returns Inv-loop μ-loop
 returns c = let a = c .before .before .before .before .before .before .before .before .before .before .before .before .before .args in
@@ -92,27 +93,27 @@ exact-at-requires c κs = let a = c .before .before .before .before .before .bef
     let l = c .before .before .before .before .before .loop in
     let f = c .before .before .before .follow in
     let m = met (a .archive .now) (a .place .used) 5 (l .last) (l .link) (f .result) (f .ensures) _ (c .before .answer .given .1) in
-    (omega (arith, c .before .before .before .before .before .before .before .before .before .before .before .before .before .before .pre .0 .room), (c .before .before .before .before .before .before .before .before .before .before .before .before .before .before .pre .1 .0, c .before .before .before .before .before .before .before .before .before .before .before .before .before .before .pre .1 .1))
+    (end-within (m .below) (c .before .before .before .before .before .before .before .before .before .before .before .before .before .before .pre .0 .room), (c .before .before .before .before .before .before .before .before .before .before .before .before .before .before .pre .1 .0, c .before .before .before .before .before .before .before .before .before .before .before .before .before .before .pre .1 .1))
 
 enter-requires : tie.Need-enter-requires Inv-loop μ-loop
 enter-requires c κs = search needs
 
 add-count : tie.Need-add-count Inv-loop μ-loop
-add-count c = search needs
+add-count c = going-counts (c .before .before .before .before .before .before .before .before .before .before .loop .inv) (c .before .before .before .before .before .before .before .before .before .before .before .before .before .before .before .before .before .before .before .pre .0 .few)
 
 link-of-requires-2 : tie.Need-link-of-requires-2 Inv-loop μ-loop
 link-of-requires-2 c κs = let a = c .before .before .before .before .before .before .before .before .before .before .before .before .before .before .before .before .before .before .before .args in
     let l = c .before .before .before .before .before .before .before .before .before .before .loop in
     let f = c .before .before .before .before .before .before .before .before .follow in
     let m = met (a .archive .now) (a .place .used) 5 (l .last) (l .link) (f .result) (f .ensures) _ (c .before .before .before .before .before .before .answer .given .1) in
-    omega (arith, c .before .before .before .before .before .before .before .before .before .before .before .before .before .before .before .before .before .before .before .pre .0 .room)
+    (end-within (m .below) (c .before .before .before .before .before .before .before .before .before .before .before .before .before .before .before .before .before .before .before .pre .0 .room), lit≤ tt)
 
 loop-less : tie.Need-loop-less Inv-loop μ-loop
 loop-less c = let a = c .before .before .before .before .before .before .before .before .before .before .before .before .before .before .before .before .before .before .before .before .args in
     let l = c .before .before .before .before .before .before .before .before .before .before .before .loop in
     let f = c .before .before .before .before .before .before .before .before .before .follow in
     let m = met (a .archive .now) (a .place .used) 5 (l .last) (l .link) (f .result) (f .ensures) _ (c .before .before .before .before .before .before .before .answer .given .1) in
-    omega arith
+    link-nearer (m .rises) (m .below)
 
 loop-again : tie.Need-loop-again Inv-loop μ-loop
 loop-again c = let a = c .before .before .before .before .before .before .before .before .before .before .before .before .before .before .before .before .before .before .before .before .args in
@@ -127,19 +128,19 @@ in-count-range-requires : tie.Need-in-count-range-requires Inv-loop μ-loop
 in-count-range-requires c κs = search needs
 
 same-length-2 : tie.Need-same-length-2 Inv-loop μ-loop
-same-length-2 c = search needs
+same-length-2 c = c .before .before .before .loop .inv .size
 
 returns-2 : tie.Need-returns-2 Inv-loop μ-loop
 returns-2 c = walks-uncounted (c .before .before .before .before .before .before .before .before .before .before .before .before .args .place) (c .before .before .before .loop .inv) (c .before .before .loop-test .left) (c .before .before .before .before .before .before .before .before .before .before .before .before .pre .1 .0) (c .before .before .before .before .before .before .before .direction-of .ensures) (c .before .before .before .before .before .execution-of .ensures) (sym (c .before .in-count-range .ensures) ∙ not-true _ (c .if1 .taken))
 
 same-length-3 : tie.Need-same-length-3 Inv-loop μ-loop
-same-length-3 c = search needs
+same-length-3 c = c .before .before .before .before .loop .inv .size
 
 returns-3 : tie.Need-returns-3 Inv-loop μ-loop
 returns-3 c = walks-unreadable (c .before .before .before .before .before .before .before .before .before .before .before .before .before .args .place) (c .before .before .before .before .loop .inv) (c .before .before .before .loop-test .left) (c .before .before .before .before .before .before .before .before .before .before .before .before .before .pre .1 .0) (c .before .before .before .before .before .before .before .before .direction-of .ensures) (c .before .before .before .before .before .before .execution-of .ensures) (sym (c .before .before .in-count-range .ensures) ∙ not-false _ (c .before .if1 .left)) (not-true _ (c .if2 .taken))
 
 same-length-4 : tie.Need-same-length-4 Inv-loop μ-loop
-same-length-4 c = search needs
+same-length-4 c = c .before .before .before .before .loop .inv .size
 
 returns-4 : tie.Need-returns-4 Inv-loop μ-loop
 returns-4 c = walks-given (c .before .before .before .before .before .before .before .before .before .before .before .before .before .args .place) (c .before .before .before .before .loop .inv) (c .before .before .before .loop-test .left) (c .before .before .before .before .before .before .before .before .before .before .before .before .before .pre .1 .0) (c .before .before .before .before .before .before .before .before .direction-of .ensures) (c .before .before .before .before .before .before .execution-of .ensures) (sym (c .before .before .in-count-range .ensures) ∙ not-false _ (c .before .if1 .left)) (not-false _ (c .if2 .left))

@@ -16,16 +16,6 @@ use native.Mathlib.Omega.{arith}
 use borrow.Author.Needs.{needs}
 use Rattle.settle.proofs.from_basis.Statement.{statement}
 use Rattle.settle.proofs.from_basis.Tie as tie
-use Rattle.settle.proofs.from_basis.Reads as reads
-use Rattle.settle.proofs.from_basis.Lts as lts
-use Rattle.basis.proofs.pauschal.Reads as pauschal-reads
-use Rattle.basis.proofs.solar.Reads as solar-reads
-use Rattle.place.proofs.terms.nominal_power.Reads as nominal-power-reads
-use Rattle.place.proofs.terms.technology_of.Reads as technology-of-reads
-use Rattle.place.proofs.terms.variant_of.Reads as variant-of-reads
-use Rattle.settle.proofs.from_before.Reads as from-before-reads
-use Rattle.settle.proofs.off_curve.Reads as off-curve-reads
-use Rattle.settle.proofs.wind_spitz.Reads as wind-spitz-reads
 
 mul-plant : tie.Need-mul-plant
 mul-plant c = search needs

@@ -6,9 +6,6 @@ use mathlib.Core.Path.{subst}
 use borrow.Author.Needs.{needs}
 use Rattle.settle.proofs.from_before.Statement.{statement}
 use Rattle.settle.proofs.from_before.Tie as tie
-use Rattle.settle.proofs.from_before.Reads as reads
-use Rattle.settle.proofs.from_before.Lts as lts
-use Rattle.settle.proofs.off_curve.Reads as off-curve-reads
 
 enum-known-based : tie.Need-enum-known-based
 enum-known-based c = search needs

@@ -8,11 +8,6 @@ use native.Mathlib.Omega.{arith}
 use borrow.Author.Needs.{needs}
 use Rattle.settle.proofs.measured.Statement.{statement}
 use Rattle.settle.proofs.measured.Tie as tie
-use Rattle.settle.proofs.measured.Reads as reads
-use Rattle.settle.proofs.measured.Lts as lts
-use Rattle.energy.proofs.reference.denominator.Reads as denominator-reads
-use Rattle.place.proofs.terms.direction_of.Reads as direction-of-reads
-use Rattle.quarters.proofs.walk.Reads as walk-reads
 
 walk-requires : tie.Need-walk-requires
 walk-requires c κs = search needs

@@ -2,9 +2,6 @@ use mathlib.Core.List.{[]}
 use borrow.Author.Needs.{needs}
 use Rattle.settle.proofs.off_curve.Statement.{statement}
 use Rattle.settle.proofs.off_curve.Tie as tie
-use Rattle.settle.proofs.off_curve.Reads as reads
-use Rattle.settle.proofs.off_curve.Lts as lts
-use Rattle.settle.proofs.measured.Reads as measured-reads
 
 -- src/lib.rt:133:48
 slice-aggregate-measured : tie.Need-slice-aggregate-measured

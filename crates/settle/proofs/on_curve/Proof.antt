@@ -8,11 +8,6 @@ use native.Mathlib.Omega.{arith}
 use borrow.Author.Needs.{needs}
 use Rattle.settle.proofs.on_curve.Statement.{statement}
 use Rattle.settle.proofs.on_curve.Tie as tie
-use Rattle.settle.proofs.on_curve.Reads as reads
-use Rattle.settle.proofs.on_curve.Lts as lts
-use Rattle.basis.proofs.wind.Reads as wind-reads
-use Rattle.curve.proofs.read_points.Reads as read-points-reads
-use Rattle.settle.proofs.measured.Reads as measured-reads
 
 read-points-requires : tie.Need-read-points-requires
 read-points-requires c κs = search needs

@@ -1,14 +1,9 @@
 use Rattle.settle.proofs.Bases.{no-place, at-place}
 use Rattle.place.proofs.Laws.{located, placed-refused}
-use Rattle.place.specs.Places.{meant}
 use native.Mathlib.Omega.{arith}
 use borrow.Author.Needs.{needs}
 use Rattle.settle.proofs.prepare.Statement.{statement}
 use Rattle.settle.proofs.prepare.Tie as tie
-use Rattle.settle.proofs.prepare.Reads as reads
-use Rattle.settle.proofs.prepare.Lts as lts
-use Rattle.place.proofs.find.Reads as find-reads
-use Rattle.settle.proofs.from_basis.Reads as from-basis-reads
 
 find-requires : tie.Need-find-requires
 find-requires c κs = search needs

@@ -6,11 +6,6 @@ use mathlib.Core.Path.{refl, sym}
 use borrow.Author.Needs.{needs}
 use Rattle.settle.proofs.settle_on.Statement.{statement}
 use Rattle.settle.proofs.settle_on.Tie as tie
-use Rattle.settle.proofs.settle_on.Reads as reads
-use Rattle.settle.proofs.settle_on.Lts as lts
-use Rattle.energy.proofs.carry.book_all.Reads as book-all-reads
-use Rattle.settle.proofs.number.Reads as number-reads
-use Rattle.settle.proofs.prepare.Reads as prepare-reads
 
 prepare-requires : tie.Need-prepare-requires
 prepare-requires c κs = search needs
@@ -42,7 +37,7 @@ slice-reshare-prefix-book-all c =
     let x = c .before .before .before .before .before .before .prepare in
     let s = ready (a .archive .now) (a .p) (a .k) _ (x .result) (x .ensures) _ (c .before .before .prepared .given .1) in
     let room : min (length (a .list .now)) 2976 ≤ length (x .last .1 .1 .1 .0) = omega (arith, c .before .before .before .before .before .before .before .before .before .before .pre, x .kept .1 .1 .1 .0) in
-    in-sheet (a .archive .now) (a .p) (a .k) (a .list .now) _ _ s room (c .if1 .left)
+    in-sheet s room (c .if1 .left)
 
 slice-aggregate-book-all : tie.Need-slice-aggregate-book-all
 slice-aggregate-book-all c =
@@ -50,7 +45,7 @@ slice-aggregate-book-all c =
     let x = c .before .before .before .before .before .before .before .prepare in
     let s = ready (a .archive .now) (a .p) (a .k) _ (x .result) (x .ensures) _ (c .before .before .before .prepared .given .1) in
     let room : min (length (a .list .now)) 2976 ≤ length (x .last .1 .1 .1 .0) = omega (arith, c .before .before .before .before .before .before .before .before .before .before .before .pre, x .kept .1 .1 .1 .0) in
-    sym (sheet-length (a .archive .now) (a .p) (a .k) (a .list .now) _ _ s room (c .before .if1 .left))
+    sym (sheet-length s room (c .before .if1 .left))
 
 book-all-requires : tie.Need-book-all-requires
 book-all-requires c κs =
@@ -58,7 +53,7 @@ book-all-requires c κs =
     let x = c .before .before .before .before .before .before .before .before .prepare in
     let s = ready (a .archive .now) (a .p) (a .k) _ (x .result) (x .ensures) _ (c .before .before .before .before .prepared .given .1) in
     let room : min (length (a .list .now)) 2976 ≤ length (x .last .1 .1 .1 .0) = omega (arith, c .before .before .before .before .before .before .before .before .before .before .before .before .pre, x .kept .1 .1 .1 .0) in
-    (s .positive, s .low, s .fits (in-sheet (a .archive .now) (a .p) (a .k) (a .list .now) _ _ s room (c .before .before .if1 .left)), list-long (a .archive .now) (a .p) (a .k) (a .list .now) _ _ s room (c .before .before .if1 .left))
+    (s .positive, s .low, s .fits (in-sheet s room (c .before .before .if1 .left)), list-long (a .archive .now) (a .p) (a .k) (a .list .now) _ _ s room (c .before .before .if1 .left))
 
 same-length-3 : tie.Need-same-length-3
 same-length-3 c = search needs

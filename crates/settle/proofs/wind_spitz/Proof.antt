@@ -3,9 +3,6 @@ use mathlib.Core.Path.{refl}
 use borrow.Author.Needs.{needs}
 use Rattle.settle.proofs.wind_spitz.Statement.{statement}
 use Rattle.settle.proofs.wind_spitz.Tie as tie
-use Rattle.settle.proofs.wind_spitz.Reads as reads
-use Rattle.settle.proofs.wind_spitz.Lts as lts
-use Rattle.settle.proofs.on_curve.Reads as on-curve-reads
 
 -- src/lib.rt:115:30
 slice-aggregate-on-curve : tie.Need-slice-aggregate-on-curve

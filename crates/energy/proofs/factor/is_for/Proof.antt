@@ -4,8 +4,6 @@ use lib.Dec.{leb, ltb}
 use Rattle.energy.proofs.Rows.{and-yes, and-no, or-yes, or-no, row-other, row-day, row-night}
 use Rattle.energy.proofs.factor.is_for.Statement.{statement}
 use Rattle.energy.proofs.factor.is_for.Tie as tie
-use Rattle.energy.proofs.factor.is_for.Reads as reads
-use Rattle.energy.proofs.factor.is_for.Lts as lts
 
 -- src/factor.rt:70:9
 returns : tie.Need-returns

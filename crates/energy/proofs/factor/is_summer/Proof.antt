@@ -3,8 +3,6 @@ use lib.Dec.{leb}
 use Rattle.energy.proofs.Rows.{and-yes, and-no}
 use Rattle.energy.proofs.factor.is_summer.Statement.{statement}
 use Rattle.energy.proofs.factor.is_summer.Tie as tie
-use Rattle.energy.proofs.factor.is_summer.Reads as reads
-use Rattle.energy.proofs.factor.is_summer.Lts as lts
 
 -- src/factor.rt:59:1
 returns : tie.Need-returns
