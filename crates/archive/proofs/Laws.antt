@@ -5,15 +5,13 @@ use mathlib.Core.List.{List, _∷_}
 use mathlib.Core.Logic.{_⊎_, inl, inr}
 use Prim.Native.Nat.{ℕ, zero, suc, _+_, _*_, _-_, _/_, _≤_, _<_}
 use native.Mathlib.Omega.{arith}
-use mir.Syntax.{w64}
-use mir.Val.{Fits}
 use lib.ListN.{length, take, drop}
 use borrow.Author.Tests.{le-leb, lt-leb, lt-ltb, le-ltb}
 use denote.Ref.{RefT}
 use denote.Enum.Declared.{tagOf, declared}
 use Rattle.rules.specs.Outcome.{Outcome, refused, given, _>>=_, _>>_, require}
 use Rattle.rules.specs.Refusals.{notArchive}
-use Rattle.rules.specs.Archive.{byteAt, linkAt, nextOf, recordAt, isWhole, isText, usedOf, Entry, follow, atPlace, chain, entryAt}
+use Rattle.rules.specs.Archive.{linkAt, nextOf, recordAt, isWhole, isText, usedOf, Entry, follow, atPlace, chain, entryAt}
 use Rattle.rules.specs.Filing.{lastPlace, isShown, shown}
 use Rattle.rules.specs.Promises.{Shows}
 use Rattle.rules.proofs.Bytes.{link-of}
@@ -30,24 +28,6 @@ use Rattle.archive.specs.declared.ChainEnd.{ChainEnd}
 use Rattle.archive.specs.declared.ChainEnd.the-variants as chainEnd
 use Rattle.archive.specs.Answers.{headAnswer, linkAnswer, reachAnswer, endAnswer, refusalOf}
 use Rattle.archive.proofs.Link.{enum}
-
--- ---- four bytes
-
-pub four-within : {at size : ℕ} → at + 4 ≤ size → (at < size) × (at + 1 < size) × (at + 2 < size) × (at + 3 < size)
-four-within h = omega arith
-
-module _ {a b c d : ℕ} (ha : a < 256) (hb : b < 256) (hc : c < 256) (hd : d < 256) where
-  pub four-small : a + 256 * b + 65536 * c + 16777216 * d < 4294967296
-  four-small = omega arith
-
-  -- the products and sums on the way
-  pub four-fit : Fits w64 (256 * b) × Fits w64 (a + 256 * b) × Fits w64 (65536 * c) × Fits w64 (a + 256 * b + 65536 * c) × Fits w64 (16777216 * d) × Fits w64 (a + 256 * b + 65536 * c + 16777216 * d)
-  four-fit = (record { fits = omega arith }, record { fits = omega arith }, record { fits = omega arith }, record { fits = omega arith }, record { fits = omega arith }, record { fits = omega arith })
-
-pub four-are : (r : List ℕ) (at : ℕ) {a b c d : ℕ} → a ≡ byteAt r at → b ≡ byteAt r (at + 1) → c ≡ byteAt r (at + 2) → d ≡ byteAt r (at + 3)
-    → a + 256 * b + 65536 * c + 16777216 * d ≡ linkAt r at
-unfolding linkAt
-four-are r at ha hb hc hd = omega arith
 
 -- ---- the head
 
