@@ -20,12 +20,13 @@ use Rattle.rules.proofs.Folds.{gathered}
 use Rattle.rules.proofs.Ints.{biased-add, biased-eq, orZero-add, le-parts}
 use Rattle.rules.proofs.Ranges.{within-signed}
 use Rattle.rules.proofs.Sound.{both}
-use Rattle.basis.specs.declared.Purpose.{Purpose}
-use Rattle.basis.specs.declared.Purpose.the-variants.{Four, First, All}
-use Rattle.basis.specs.declared.Sums.{Sums}
-use Rattle.basis.specs.declared.Walk.{Walk}
-use Rattle.basis.specs.Sums.{powerBias, raised, taken, withTaken, stepped, steppedBy, passed}
-use Rattle.basis.proofs.Taken.{ten-above, ten-under}
+use Rattle.sums.specs.declared.Purpose.{Purpose}
+use Rattle.sums.specs.declared.Purpose.the-variants.{Four, First, All}
+use Rattle.sums.specs.declared.Sums.{Sums}
+use Rattle.sums.specs.Sums.{powerBias, raised, taken}
+use Rattle.sums.proofs.Taken.{ten-above, ten-under}
+use Rattle.before.specs.declared.Walk.{Walk}
+use Rattle.before.specs.Walks.{withTaken, stepped, steppedBy, passed}
 
 unfoldable pub rest : Purpose → List Point → ℕ → Sums → List Before → Outcome Basis
 rest (Four pn) points links s xs =

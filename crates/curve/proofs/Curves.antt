@@ -20,12 +20,13 @@ use Rattle.rules.proofs.Folds.{gathered}
 use Rattle.rules.proofs.Inversion.{both-left, both-right, All, none, more}
 use Rattle.rules.proofs.Sound.{both}
 use Rattle.rules.proofs.Curve.{below-first, above-last, from-point, between, at-point}
+use Rattle.table.specs.Tables.{tableReading, Low, Tabulates}
+use Rattle.table.specs.Lines.{InRange}
+use Rattle.table.proofs.Line.{Piece}
+use Rattle.table.proofs.Fills.{either-side, set-low, next-size, next-before, next-line, next-point, next-low}
 use Rattle.curve.specs.declared.CurveAnswer.the-variants.{Read, Refused}
-use Rattle.curve.specs.Tables.{tableReading, Low, Tabulates}
-use Rattle.curve.specs.Steps.{InRange, Walk, walk, noPoints, lastRead, counted, withNext, withPoint, answerOf}
+use Rattle.curve.specs.Steps.{Walk, walk, noPoints, lastRead, counted, withNext, withPoint, answerOf}
 use Rattle.curve.specs.Answers.{CurveRead}
-use Rattle.curve.proofs.Line.{Piece}
-use Rattle.curve.proofs.Fills.{either-side, set-low, next-size, next-before, next-line, next-point, next-low}
 use Rattle.curve.proofs.Points.{stepped, onward, points, allowed, all-counted, all-tested, followed, all-followed, all-in-range, onward-next, all-rise}
 
 -- ---- the table up to the last point that was read, of the curve of all points

@@ -16,8 +16,9 @@ use Rattle.rules.proofs.Folds.{gathered}
 use Rattle.rules.proofs.Inversion.{All, none, more}
 use Rattle.rules.proofs.Ranges.{within-natural}
 use Rattle.rules.proofs.Sound.{both}
-use Rattle.curve.specs.Steps.{InRange, Walk, walk, lastRead, counted, withFirst, withNext, withNotRising, withPoint, withOutOfRange, withRecord}
-use Rattle.curve.proofs.Fills.{either-side}
+use Rattle.table.specs.Lines.{InRange}
+use Rattle.table.proofs.Fills.{either-side}
+use Rattle.curve.specs.Steps.{Walk, walk, lastRead, counted, withFirst, withNext, withNotRising, withPoint, withOutOfRange, withRecord}
 use Rattle.curve.proofs.Steps.{is-next, is-not-rising}
 
 abbrev pub stepped : Walk → Entry → Walk

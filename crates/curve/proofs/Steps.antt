@@ -12,9 +12,10 @@ use Rattle.rules.specs.Archive.{linkAt, fieldAt, twos}
 use Rattle.rules.specs.Terms.{Point, pointOf, pointAllowed, isSpeed, isCurvePower}
 use Rattle.rules.proofs.Ranges.{within-natural}
 use Rattle.rules.proofs.Sound.{both}
+use Rattle.table.specs.Lines.{point, filled}
 use Rattle.curve.specs.declared.PointsRead.{PointsRead}
 use Rattle.curve.specs.declared.CurveAnswer.the-variants.{Read, Refused}
-use Rattle.curve.specs.Steps.{point, filled, Walk, walk, lastRead, counted, withFirst, withNext, withNotRising, withPoint, withOutOfRange, withRecord, answerOf}
+use Rattle.curve.specs.Steps.{Walk, walk, lastRead, counted, withFirst, withNext, withNotRising, withPoint, withOutOfRange, withRecord, answerOf}
 
 -- ---- a point in range
 

@@ -10,17 +10,18 @@ use Rattle.rules.specs.Terms.{Point}
 use Rattle.rules.specs.Settle.{pointsOf}
 use Rattle.rules.proofs.Chains.{chain-ends}
 use Rattle.rules.proofs.Folds.{gatheredFrom, gather-turn, gather-refused, gather-done}
-use Rattle.archive.specs.declared.Link.{Link}
-use Rattle.archive.specs.Answers.{linkAnswer, refusalOf}
-use Rattle.archive.proofs.Laws.{Met, NoAt, chain-met, chain-none}
+use Rattle.chains.specs.declared.Link.{Link}
+use Rattle.chains.specs.Answers.{linkAnswer, refusalOf}
+use Rattle.chains.proofs.Laws.{Met, NoAt, chain-met, chain-none}
 use Rattle.place.specs.declared.Place.{Place}
 use Rattle.place.specs.Places.{meant}
-use Rattle.curve.specs.declared.Curve.{Curve}
+use Rattle.table.specs.declared.Curve.{Curve}
+use Rattle.table.specs.Tables.{Low, Tabulates}
+use Rattle.table.specs.Lines.{InRange}
 use Rattle.curve.specs.declared.CurveAnswer.{CurveAnswer}
 use Rattle.curve.specs.declared.CurveAnswer.the-variants.{Read, Refused}
-use Rattle.curve.specs.Tables.{Low, Tabulates}
 use Rattle.curve.specs.Answers.{CurveRead}
-use Rattle.curve.specs.Steps.{InRange, Walk, walk, noPoints, lastRead, withRecord, answerOf}
+use Rattle.curve.specs.Steps.{Walk, walk, noPoints, lastRead, withRecord, answerOf}
 use Rattle.curve.proofs.Points.{stepped, record-count, record-in-range}
 use Rattle.curve.proofs.Curves.{pointsFrom, end, answered}
 

@@ -2,23 +2,13 @@
 use Prim.Native.Nat.{ℕ}
 use mathlib.Core.Path.{_≡_}
 use mathlib.Core.List.{List}
-use lib.IntN.{pos}
 use lib.ListN.{length}
 use Rattle.rules.specs.Outcome.{Outcome, refused, given}
 use Rattle.rules.specs.Terms.{Point}
-use Rattle.rules.specs.Reference as reference
-use Rattle.curve.specs.declared.Curve.{Curve}
-use Rattle.curve.specs.declared.CurveReading.{CurveReading}
-use Rattle.curve.specs.declared.CurveReading.the-variants as reading
+use Rattle.table.specs.declared.Curve.{Curve}
+use Rattle.table.specs.Tables.{Tabulates}
 use Rattle.curve.specs.declared.CurveAnswer.{CurveAnswer}
 use Rattle.curve.specs.declared.CurveAnswer.the-variants as answer
-use Rattle.curve.specs.Tables.{Tabulates}
-
--- below the first point, on the curve with a power in W, or above the last point
-abbrev pub readingAnswer : reference.CurveReading → CurveReading
-readingAnswer reference.below = reading.Below
-readingAnswer (reference.on power) = reading.On (record { 0 = pos power })
-readingAnswer reference.above = reading.Above
 
 -- these points, read: the links followed, one to each point, and the table of their curve
 pub record PointsTabulated (points : List Point) (r : CurveAnswer) (table : List ℕ) : Type 0 where

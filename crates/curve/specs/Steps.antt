@@ -1,28 +1,15 @@
 -- The walk along the points of a curve, step by step: what it has read, and the table that it fills.
-use Prim.Native.Nat.{ℕ, zero, suc, _+_, _-_, _≤_}
+use Prim.Native.Nat.{ℕ, _+_, _-_}
 use mathlib.Core.Bool.{true, false, cond, _&&_}
 use mathlib.Core.List.{List}
 use lib.Dec.{eqb, leb, ltb}
 use lib.ListN.{set}
 use Rattle.rules.specs.Refusals.{outOfRange, badCurve}
 use Rattle.rules.specs.Terms.{Point, pointOf, pointAllowed}
-use Rattle.rules.specs.Reference.{lineAt}
+use Rattle.table.specs.Lines.{point, filled}
 use Rattle.curve.specs.declared.PointsRead.{PointsRead}
 use Rattle.curve.specs.declared.CurveAnswer.{CurveAnswer}
 use Rattle.curve.specs.declared.CurveAnswer.the-variants.{Read, Refused}
-
-abbrev pub point : ℕ → ℕ → Point
-point speed power = record { speed = speed; power = power }
-
--- speed and power are in range
-pub record InRange (a : Point) : Type 0 where
-  pub low-speed : a .speed ≤ 1000
-  pub low-power : a .power ≤ 1000000000
-
--- the line from a to b at so many speeds from this one on
-unfoldable pub filled : Point → Point → ℕ → ℕ → List ℕ → List ℕ
-filled a b zero speed table = table
-filled a b (suc n) speed table = filled a b n (suc speed) (set table speed (lineAt a b speed))
 
 -- where a walk stands
 pub record Walk : Type 0 where

@@ -1,6 +1,4 @@
-// From readings to booked amounts (01, 'From readings to exact fractions' and 'Amounts').
+// From readings to exact magnitudes (01, 'From readings to exact fractions').
 
-pub mod carry;
 pub mod exact;
-pub mod factor;
 pub mod reference;

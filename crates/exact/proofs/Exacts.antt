@@ -1,23 +1,22 @@
--- Limitation value, reference power and exact magnitude of a quarter, over plain variables.
+-- Reference power and exact magnitude of a quarter, over plain variables.
 use mathlib.Core.Path.{_≡_, refl, sym, _∙_, ap, subst, ap₂}
-use mathlib.Core.Bool.{Bool, true, false, cond, not, _&&_}
+use mathlib.Core.Bool.{Bool, true, false, cond, _&&_}
 use mathlib.Core.List.{List, [], _∷_}
 use Prim.Native.Nat.{ℕ, _+_, _*_, _≤_, _<_}
 use native.Mathlib.Nat.{mul-le-mul, mul-le-mul-right}
 use native.Mathlib.Omega.{arith}
-use borrow.Author.Tests.{le-leb, lt-leb, leb-true, not-true, not-false}
+use borrow.Author.Tests.{le-leb, lt-leb, leb-true}
 use lib.Dec.{leb}
 use lib.IntN.{ℤ, pos, _*ℤ_}
-use lib.Signed.{leZ, mag}
+use lib.Signed.{mag}
 use Rattle.rules.specs.declared.Direction.{Direction}
 use Rattle.rules.specs.declared.Direction.the-variants.{Positive as positive, Negative as negative}
 use Rattle.rules.specs.declared.Execution.{Execution}
-use Rattle.rules.specs.declared.Execution.the-variants.{Requested as requested, Tolerated as tolerated, Fixed as fixed}
 use Rattle.rules.specs.declared.FactorRow.{FactorRow}
-use Rattle.rules.specs.Numbers.{orZero, smaller, larger, all}
-use Rattle.rules.specs.Terms.{isPower, isSpeed, isIrradiance, Point, Quarter}
+use Rattle.rules.specs.Numbers.{orZero, smaller, all}
+use Rattle.rules.specs.Terms.{isSpeed, isIrradiance, Point, Quarter}
 use Rattle.rules.specs.Reference as book
-use Rattle.rules.specs.Reference.{limitation, curvePower, factorRows, isFor, firstFor, plantFactor, denominator, numerator, magnitude, exactOf}
+use Rattle.rules.specs.Reference.{curvePower, factorRows, isFor, firstFor, plantFactor, denominator, numerator, magnitude, exactOf}
 use Rattle.rules.specs.Settle.{limitReadable, referenceReadable}
 use Rattle.rules.proofs.Ints.{under, orZero-minus, orZero-times, under-times, parts-mag, mag-times}
 use Rattle.rules.proofs.Ranges.{within-natural}
@@ -29,63 +28,15 @@ use Rattle.energy.specs.declared.reference.Reference.{Reference}
 use Rattle.energy.specs.declared.reference.Reference.the-variants.{OnCurve, LastMeasured, OnIrradiance, ByFactor, AsPlanned}
 use Rattle.energy.specs.References.{meaning, Bounded}
 use Rattle.energy.proofs.References.{power-small, divides}
-use Rattle.curve.specs.declared.Curve.{Curve}
-use Rattle.exact.specs.declared.Power.{Power}
-use Rattle.exact.specs.declared.Power.the-variants as power
+use Rattle.table.specs.declared.Curve.{Curve}
+use Rattle.limits.specs.declared.Power.{Power}
+use Rattle.limits.specs.declared.Power.the-variants as power
+use Rattle.limits.specs.Limits.{PowerOf, LimitedTo}
+use Rattle.limits.proofs.Limits.{limit-small}
 use Rattle.exact.specs.declared.Numerator.{Numerator}
 use Rattle.exact.specs.declared.Numerator.the-variants as over
 use Rattle.exact.specs.declared.Exact.the-variants as exact
-use Rattle.exact.specs.Exacts.{Curved, PowerOf, LimitedTo, ReferredTo, quarterAnswer}
-
--- a test of a field, as the code asks it
-module _ (test : ℤ → Bool) {t : Bool} {a z : ℤ} (e : t ≡ test a) (i : a ≡ z) where
-  pub out-of-range : not t ≡ true → test z ≡ false
-  out-of-range n = ap test (sym i) ∙ sym e ∙ not-true t n
-
-  pub in-range : not t ≡ false → test z ≡ true
-  in-range n = ap test (sym i) ∙ sym e ∙ not-false t n
-
--- ---- limitation value
-
-module _ (s : Direction) (x : Execution) (q : Quarter) where
-  pub limited-measured : PowerOf (q .measured) power.OutOfRange → LimitedTo s x q power.OutOfRange
-  limited-measured e = go x
-    where
-      go : (x : Execution) → limitReadable x q ≡ false
-      go requested = rw e
-      go tolerated = e
-      go fixed = e
-
-  module _ (m : Watt) (h : PowerOf (q .measured) (power.Of m)) where
-    pub limited-tolerated : x ≡ tolerated → LimitedTo s x q (power.Of m)
-    unfolding limitation
-    limited-tolerated e = rw e h
-
-    pub limited-fixed : x ≡ fixed → LimitedTo s x q (power.Of m)
-    unfolding limitation
-    limited-fixed e = rw e h
-
-    module _ (asked : x ≡ requested) where
-      pub limited-limit : PowerOf (q .limit) power.OutOfRange → LimitedTo s x q power.OutOfRange
-      limited-limit e = rw (asked, h .0, e)
-
-      pub limited-requested : (l n : Watt) → PowerOf (q .limit) (power.Of l) → n .0 ≡ limitation s x (m .0) (l .0) → LimitedTo s x q (power.Of n)
-      limited-requested l n k i = (rw (asked, h .0, k .0), i ∙ ap₂ (limitation s x) (h .1) (k .1))
-
-pick-small : (t : Bool) (a b : ℤ) (n : ℕ) → mag a ≤ n → mag b ≤ n → mag (cond t a b) ≤ n
-pick-small true a b n h k = h
-pick-small false a b n h k = k
-
-pub limit-small : (s : Direction) (x : Execution) (q : Quarter) → limitReadable x q ≡ true → mag (limitation s x (q .measured) (q .limit)) ≤ 1000000000
-unfolding limitation smaller larger
-limit-small s tolerated q e = power-small (q .measured) e
-limit-small s fixed q e = power-small (q .measured) e
-limit-small positive requested q e =
-    let b = both (isPower (q .measured)) (isPower (q .limit)) e in
-    pick-small (leZ (q .measured) (q .limit)) _ _ _ (power-small (q .measured) (b .0)) (power-small (q .limit) (b .1))
-limit-small negative requested q e =
-    let b = both (isPower (q .measured)) (isPower (q .limit)) e in
-    pick-small (leZ (q .measured) (q .limit)) _ _ _ (power-small (q .limit) (b .1)) (power-small (q .measured) (b .0))
+use Rattle.exact.specs.Exacts.{Curved, ReferredTo, quarterAnswer}
 
 -- ---- reference power
 

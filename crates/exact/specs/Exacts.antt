@@ -1,20 +1,17 @@
--- What the code says of a quarter: its limitation value, its reference power and its exact magnitude.
+-- What the code says of a quarter: its reference power and its exact magnitude.
 use mathlib.Core.Path.{_≡_}
 use mathlib.Core.Bool.{Bool, true, false, _&&_}
 use mathlib.Core.List.{List}
 use Prim.Native.Nat.{ℕ}
-use lib.IntN.{ℤ}
 use Rattle.rules.specs.declared.Direction.{Direction}
 use Rattle.rules.specs.declared.Execution.{Execution}
-use Rattle.rules.specs.Terms.{isPower, Point, Quarter}
+use Rattle.rules.specs.Terms.{Point, Quarter}
 use Rattle.rules.specs.Reference as book
 use Rattle.rules.specs.Settle.{limitReadable, referenceReadable}
 use Rattle.energy.specs.declared.reference.Reference.{Reference}
 use Rattle.energy.specs.declared.reference.Reference.the-variants.{OnCurve, LastMeasured, OnIrradiance, ByFactor, AsPlanned}
-use Rattle.curve.specs.declared.Curve.{Curve}
-use Rattle.curve.specs.Tables.{Tabulates}
-use Rattle.exact.specs.declared.Power.{Power}
-use Rattle.exact.specs.declared.Power.the-variants as power
+use Rattle.table.specs.declared.Curve.{Curve}
+use Rattle.table.specs.Tables.{Tabulates}
 use Rattle.exact.specs.declared.Numerator.{Numerator}
 use Rattle.exact.specs.declared.Numerator.the-variants as numerator
 use Rattle.exact.specs.declared.Exact.{Exact}
@@ -31,19 +28,6 @@ Curved AsPlanned curve table points = Unit {0}
 -- of a curve with some points
 abbrev pub Tabled : Reference → Curve → List ℕ → Type 0
 Tabled reference curve table = (points : List Point) × Curved reference curve table points
-
--- ---- powers and the limitation value
-
--- a measured power, limit or plan; or it is out of range
-abbrev pub PowerOf : ℤ → Power → Type 0
-PowerOf z (power.Of p) = (isPower z ≡ true) × (p .0 ≡ z)
-PowerOf z power.OutOfRange = isPower z ≡ false
-
--- L; or a field that it needs is out of range
-abbrev pub LimitedTo : Direction → Execution → Quarter → Power → Type 0
-LimitedTo direction execution q (power.Of l) =
-    (limitReadable execution q ≡ true) × (l .0 ≡ book.limitation direction execution (q .measured) (q .limit))
-LimitedTo direction execution q power.OutOfRange = limitReadable execution q ≡ false
 
 -- ---- reference power
 

@@ -4,16 +4,17 @@ ghost use mathlib.Core.List.{List};
 ghost use Prim.Native.Nat.{ℕ, _+_, _*_, _≤_, _<_};
 ghost use lib.ListN.{length};
 ghost use Rattle.rules.specs.Numbers.{orZero, smaller};
-ghost use Rattle.rules.specs.Archive.{byteAt, fieldAt, recordAt};
+ghost use Rattle.rules.specs.Archive.{byteAt, recordAt};
 ghost use Rattle.rules.specs.Terms.{Point, quarterOf};
 ghost use Rattle.rules.specs.Reference.{onCurve, onIrradiance, byFactor, asPlanned};
 ghost use Rattle.energy.specs.References.{meaning, Bounded};
-ghost use Rattle.curve.specs.Tables.{Tabulates};
-ghost use Rattle.exact.specs.Exacts.{Curved, Tabled, PowerOf, LimitedTo, ReferredTo, quarterAnswer};
-use curve::Curve;
+ghost use Rattle.table.specs.Tables.{Tabulates};
+ghost use Rattle.exact.specs.Exacts.{Curved, Tabled, ReferredTo, quarterAnswer};
 use energy::reference::Reference;
+use limits::Power;
 use rules::Direction;
 use rules::Execution;
+use table::Curve;
 use units::Irradiance;
 use units::Watt;
 
@@ -24,45 +25,6 @@ fn byte_at(r: &[u8], at: usize) -> u64
     ensures { λ n. ⌜ n ≡ byteAt (now (r .entry)) at ⌝ }
 {
     r[at] as u64
-}
-
-enum Power {
-    Of(Watt),
-    OutOfRange,
-}
-
-// Measured power, limit or plan.
-fn power_of(r: &[u8], at: usize) -> Power
-    requires { ⌜ at + 4 ≤ length (now r) ⌝ }
-    ensures { λ p. ⌜ PowerOf (fieldAt (now (r .entry)) at) p ⌝ }
-{
-    let power = archive::watt_at(r, at);
-    if !units::in_power_range(power) {
-        return Power::OutOfRange;
-    }
-    Power::Of(power)
-}
-
-// ---- limitation value
-
-// From the measured power, and from the limit where it is requested.
-fn limitation_of(direction: Direction, execution: Execution, r: &[u8]) -> Power
-    requires { ⌜ length (now r) ≡ 32 ⌝ }
-    ensures { λ l. ⌜ ((measure : List ℕ) (index : ℕ) → LimitedTo direction execution (quarterOf measure index (now (r .entry))) l) ⌝ }
-{
-    let Power::Of(m) = power_of(r, 8) else {
-        return Power::OutOfRange;
-    };
-    match execution {
-        Execution::Requested => {
-            let Power::Of(l) = power_of(r, 12) else {
-                return Power::OutOfRange;
-            };
-            Power::Of(energy::exact::limitation(direction, execution, m, l))
-        }
-        Execution::Tolerated => Power::Of(m),
-        Execution::Fixed => Power::Of(m),
-    }
 }
 
 // ---- reference power
@@ -86,11 +48,11 @@ fn on_curve(a: Watt, b: Watt, pn: Watt, curve: Curve, table: &[u64], r: &[u8]) -
     requires { ⌜ length (now r) ≡ 32 ⌝ }
     ensures { λ n. ⌜ ((points : List Point) (measure : List ℕ) (index : ℕ) → Tabulates curve (now (table .entry)) points → ReferredTo (onCurve (a .0) (orZero (b .0)) (orZero (pn .0)) points) (quarterOf measure index (now (r .entry))) n) ⌝ }
 {
-    let word = archive::link_at(r, 16);
-    if !units::is_speed(word) {
+    let word = fields::link_at(r, 16);
+    if !weather::is_speed(word) {
         return Numerator::OutOfRange;
     }
-    let power = curve::power_at(curve, table, units::speed_of(word));
+    let power = table::power_at(curve, table, weather::speed_of(word));
     Numerator::Of(capped(a.0 * power.0, pn.0 * b.0))
 }
 
@@ -100,11 +62,11 @@ fn on_irradiance(a: Watt, b: Irradiance, r: &[u8]) -> Numerator
     requires { ⌜ length (now r) ≡ 32 ⌝ }
     ensures { λ n. ⌜ ((measure : List ℕ) (index : ℕ) → ReferredTo (onIrradiance (a .0) (b .0)) (quarterOf measure index (now (r .entry))) n) ⌝ }
 {
-    let word = archive::link_at(r, 16);
-    if !units::is_irradiance(word) {
+    let word = fields::link_at(r, 16);
+    if !weather::is_irradiance(word) {
         return Numerator::OutOfRange;
     }
-    let g = units::irradiance_of(word).0;
+    let g = weather::irradiance_of(word).0;
     Numerator::Of(a.0 * g as i64)
 }
 
@@ -125,7 +87,7 @@ fn by_factor(pn: Watt, r: &[u8]) -> Numerator
     if 95 < quarter {
         return Numerator::OutOfRange;
     }
-    Numerator::Of(pn.0 * energy::factor::plant_factor(month, quarter) as i64)
+    Numerator::Of(pn.0 * factor::plant_factor(month, quarter) as i64)
 }
 
 // Other Spitz: the planned power.
@@ -133,7 +95,7 @@ fn as_planned(r: &[u8]) -> Numerator
     requires { ⌜ length (now r) ≡ 32 ⌝ }
     ensures { λ n. ⌜ ((measure : List ℕ) (index : ℕ) → ReferredTo asPlanned (quarterOf measure index (now (r .entry))) n) ⌝ }
 {
-    let Power::Of(planned) = power_of(r, 20) else {
+    let Power::Of(planned) = limits::power_of(r, 20) else {
         return Numerator::OutOfRange;
     };
     Numerator::Of(planned.0)
@@ -175,7 +137,7 @@ fn exact_of(
     requires { ⌜ length (now r) ≡ 32 ⌝ }
     ensures { λ x. ⌜ ((points : List Point) (measure : List ℕ) (index : ℕ) → Curved reference curve (now (table .entry)) points → x ≡ quarterAnswer direction execution (meaning reference points) (quarterOf measure index (now (r .entry)))) ⌝ }
 {
-    let Power::Of(l) = limitation_of(direction, execution, r) else {
+    let Power::Of(l) = limits::limitation_of(direction, execution, r) else {
         return Exact::OutOfRange;
     };
     let Numerator::Of(t) = numerator_of(reference, curve, table, r) else {

@@ -1,4 +1,3 @@
 pub mod Numbers
-pub mod Places
 pub mod Shown
 pub mod Settling

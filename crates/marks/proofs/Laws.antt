@@ -19,10 +19,10 @@ use Rattle.rules.proofs.Bytes.{link-of}
 use Rattle.rules.proofs.Runs.{follow-says}
 use Rattle.rules.proofs.AuditSteps.{follow-number, link-zero, link-stops, link-leads, head-checked, head-links, unknown-checked, known-checked, known-links}
 use Rattle.rules.proofs.Sound.{fine}
-use Rattle.archive.proofs.Laws.{NoAt}
-use Rattle.archive.specs.declared.Link as answer
-use Rattle.archive.specs.declared.Link.the-variants as answers
-use Rattle.archive.specs.Answers.{linkAnswer, refusalOf}
+use Rattle.chains.proofs.Laws.{NoAt}
+use Rattle.chains.specs.declared.Link as answer
+use Rattle.chains.specs.declared.Link.the-variants as answers
+use Rattle.chains.specs.Answers.{linkAnswer, refusalOf}
 use Rattle.marks.specs.Marks.{capped, marked, tally, noMarks, markedOnce, Checked}
 
 -- ---- checks one after another

@@ -1,46 +1,16 @@
 // The checks of audit: the kind and the links of every record, and a table of how often each record is named (document 01, 'Calls on
-// the archive'). Append reads the kinds and the owned links of a record here too.
+// the archive').
 ghost use mathlib.Core.Path.{_≡_};
 ghost use mathlib.Core.List.{map, _∷_, []};
 ghost use Prim.Native.Nat.{_+_, _*_, _≤_, _<_};
 ghost use lib.ListN.{length};
-ghost use Rattle.rules.specs.Links.{link, isKind, ownedBy, linksAt, standsAt, linkPlaces};
+ghost use Rattle.rules.specs.Links.{link, linksAt, standsAt, linkPlaces};
 ghost use Rattle.rules.specs.Audit.{linkChecked, recordChecked, recordsChecked};
-ghost use Rattle.marks.specs.Answers.{ownedLinks};
 ghost use Rattle.marks.specs.Marks.{marked, markedOnce, Checked};
-use archive::Link;
+use chains::Link;
+use kinds::Owned;
 use rules::kind;
 use rules::refusal;
-
-// ---- the links of a record
-
-// The known kinds, 1-5.
-pub fn is_kind(kind: u8) -> bool
-    ensures { λ r. ⌜ r ≡ isKind kind ⌝ }
-{
-    kind::PLANT <= kind && kind <= kind::QUARTER
-}
-
-// The kinds that the links at bytes 8 and 12 of a record lead to, if it has them: a plant's points and measures, a measure's
-// before-quarters and quarters.
-pub enum Owned {
-    None,
-    Two(u8, u8),
-}
-
-pub fn owned_by(r: &[u8]) -> Owned
-    requires { ⌜ length (now r) ≡ 32 ⌝ }
-    ensures { λ o. ⌜ ownedLinks o ≡ ownedBy (now (r .entry)) ⌝ }
-{
-    let kind = archive::kind_of(r);
-    if kind == kind::PLANT {
-        return Owned::Two(kind::POINT, kind::MEASURE);
-    }
-    if kind == kind::MEASURE {
-        return Owned::Two(kind::BEFORE, kind::QUARTER);
-    }
-    Owned::None
-}
 
 // ---- the table of marks
 
@@ -61,9 +31,9 @@ fn check_link(archive: &[u8], used: u64, n: u64, at: usize, to: u8, marks: &mut 
     requires { ⌜ (32 * used ≤ length (now archive)) × (n < used) × (at + 4 ≤ 32) × (used < 65536) × (length (now marks) ≡ 65536) ⌝ }
     ensures { λ r. ⌜ Checked (now (archive .entry)) (linkChecked (now (archive .entry)) used n (link at to)) (standsAt n (link at to) ∷ []) (now (marks .entry)) (now (marks .exit)) r ⌝ }
 {
-    let answer = archive::follow(archive, used, to, n, archive::link_of(archive, n, at));
+    let answer = chains::follow(archive, used, to, n, fields::link_of(archive, n, at));
     let Link::At(named) = answer else {
-        return archive::refusal_of(answer, 0);
+        return chains::refusal_of(answer, 0);
     };
     mark(marks, named);
     0
@@ -79,15 +49,15 @@ fn check_record(archive: &[u8], used: u64, n: u64, marks: &mut [u8]) -> u64
     }
     let i = n as usize;
     let r = &archive[32 * i..32 * i + 32];
-    let kind = archive::kind_of(r);
-    if !is_kind(kind) {
+    let kind = fields::kind_of(r);
+    if !kinds::is_kind(kind) {
         return refusal::WRONG_KIND;
     }
     let next = check_link(archive, used, n, 4, kind, marks);
     if next != 0 {
         return next;
     }
-    let Owned::Two(first, second) = owned_by(r) else {
+    let Owned::Two(first, second) = kinds::owned_by(r) else {
         return 0;
     };
     let number = check_link(archive, used, n, 8, first, marks);

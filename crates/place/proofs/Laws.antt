@@ -16,9 +16,9 @@ use Rattle.rules.proofs.Refusals.{used-refused}
 use Rattle.rules.proofs.Inversion.{given-inj}
 use Rattle.rules.proofs.Walks as walks
 use Rattle.rules.proofs.Sound.{bind-both, required, used-head, head-room}
-use Rattle.archive.specs.Answers.{reachAnswer}
-use Rattle.archive.specs.declared.Reach.{Reach}
-use Rattle.archive.specs.declared.Reach.the-variants as reach
+use Rattle.chains.specs.Answers.{reachAnswer}
+use Rattle.chains.specs.declared.Reach.{Reach}
+use Rattle.chains.specs.declared.Reach.the-variants as reach
 use Rattle.place.specs.declared.Place.{Place}
 use Rattle.place.specs.declared.Placed.{Placed}
 use Rattle.place.specs.declared.Placed.the-variants.{At, Refused}

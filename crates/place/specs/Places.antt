@@ -7,8 +7,8 @@ use Rattle.rules.specs.Outcome.{Outcome, refused, given, _>>=_, _>>_, require}
 use Rattle.rules.specs.Refusals.{noPlant, noMeasure, badPlant, badMeasure}
 use Rattle.rules.specs.Settle as settle
 use Rattle.rules.specs.Terms.{plantAllowed, measureAllowed}
-use Rattle.archive.specs.declared.Reach.{Reach}
-use Rattle.archive.specs.declared.Reach.the-variants as reach
+use Rattle.chains.specs.declared.Reach.{Reach}
+use Rattle.chains.specs.declared.Reach.the-variants as reach
 use Rattle.place.specs.declared.Place.{Place}
 use Rattle.place.specs.declared.Placed.{Placed}
 use Rattle.place.specs.declared.Placed.the-variants.{At, Refused}

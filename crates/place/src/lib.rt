@@ -4,10 +4,10 @@ ghost use Prim.Native.Nat.{_*_, _≤_, _<_};
 ghost use lib.ListN.{length};
 ghost use Rattle.rules.specs.Archive.{entryAt};
 ghost use Rattle.rules.specs.Settle.{placeOf};
-ghost use Rattle.archive.specs.Answers.{reachAnswer};
+ghost use Rattle.chains.specs.Answers.{reachAnswer};
 ghost use Rattle.place.specs.Places.{meant, Lies, placedAnswer, reachRefusal, plantAt, measureAt, admitted, placeUnder};
 use archive::Head;
-use archive::Reach;
+use chains::Reach;
 use rules::kind;
 use rules::refusal;
 
@@ -29,8 +29,8 @@ fn plant_at(archive: &[u8], used: u64, p: u64) -> Reach
     requires { ⌜ (1 ≤ used) × (32 * used ≤ length (now archive)) ⌝ }
     ensures { λ r. ⌜ r ≡ reachAnswer p (plantAt (now (archive .entry)) used p) ⌝ }
 {
-    let first = archive::link_of(archive, 0, 8);
-    archive::walk_to(archive, used, kind::PLANT, 0, first, p, refusal::NO_PLANT)
+    let first = fields::link_of(archive, 0, 8);
+    chains::walk_to(archive, used, kind::PLANT, 0, first, p, refusal::NO_PLANT)
 }
 
 // Measures to k, from their plant: 2, 3, 5.
@@ -38,8 +38,8 @@ fn measure_at(archive: &[u8], used: u64, plant: u64, k: u64) -> Reach
     requires { ⌜ (32 * used ≤ length (now archive)) × (plant < used) ⌝ }
     ensures { λ r. ⌜ r ≡ reachAnswer k (measureAt (now (archive .entry)) used (entryAt (now (archive .entry)) plant) k) ⌝ }
 {
-    let first = archive::link_of(archive, plant, 12);
-    archive::walk_to(
+    let first = fields::link_of(archive, plant, 12);
+    chains::walk_to(
         archive,
         used,
         kind::MEASURE,
@@ -67,8 +67,8 @@ fn admit(archive: &[u8], place: Place) -> Placed
 {
     let i = place.plant as usize;
     let j = place.measure as usize;
-    let plant_allowed = terms::plant_allowed(&archive[32 * i..32 * i + 32]);
-    let measure_allowed = terms::measure_allowed(
+    let plant_allowed = plants::plant_allowed(&archive[32 * i..32 * i + 32]);
+    let measure_allowed = measures::measure_allowed(
         &archive[32 * i..32 * i + 32],
         &archive[32 * j..32 * j + 32],
     );

@@ -28,10 +28,10 @@ use Rattle.rules.proofs.Inversion.{same-given}
 use Rattle.rules.proofs.Lists.{map-from-length, all-passed, all-weaker, sum-low}
 use Rattle.rules.proofs.Sound.{both}
 use Rattle.rules.proofs.Folds.{gathered, gatheredFrom, gather-turn, gather-refused, gather-done}
-use Rattle.archive.proofs.Laws.{Met, chain-met}
+use Rattle.chains.proofs.Laws.{Met, chain-met}
 use Rattle.place.specs.declared.Place.{Place}
 use Rattle.place.specs.Places.{meant}
-use Rattle.curve.specs.declared.Curve.{Curve}
+use Rattle.table.specs.declared.Curve.{Curve}
 use Rattle.energy.specs.declared.reference.Reference.{Reference}
 use Rattle.energy.specs.References.{meaning, Bounded}
 use Rattle.exact.specs.declared.Exact.{Exact}

@@ -1,12 +1,12 @@
 -- The worked examples of specs/Figures.antt hold: each list by one computed test.
-use Prim.Native.Nat.{ℕ, zero, suc, _+_, _≤_}
+use Prim.Native.Nat.{ℕ, _+_, _≤_}
 use mathlib.Core.Path.{_≡_, refl, _∙_, ap, ap₂}
 use native.Mathlib.Omega.{arith}
 use mathlib.Core.Bool.{Bool, true, false, _&&_}
 use mathlib.Core.List.{List, [], _∷_, _++_, flatMap}
 use lib.Dec.{eqb}
 use lib.IntN.{ℤ, pos, negsuc}
-use lib.ListN.{length, take, drop, replicate, length-replicate}
+use lib.ListN.{length, replicate, length-replicate}
 use borrow.Author.Tests.{eqb-true}
 use Rattle.rules.specs.Outcome.{given, _>>=_, _>>_, require}
 use Rattle.rules.specs.Numbers.{smaller, larger, all}
@@ -22,8 +22,8 @@ use Rattle.rules.specs.Links.{ownedBy, linksOf, ownedAt, linksAt, linkPl
 use Rattle.rules.specs.Filing.{fresh, offsetFor, appendAfter, append, shown}
 use Rattle.rules.specs.Audit.{linkChecked, recordChecked, audit}
 use Rattle.rules.specs.ReadBack.{fileAll, unlinked, readUnder, readBack}
-use Rattle.rules.specs.Output.{linesFrom, output, decimal, textOfAll}
-use Rattle.rules.specs.Figures.{Hold, head, caseA, windCase, plannedCase, caseF, caseG, factorCase, caseK, fiveBefores, twoPlants, filingsA, figures, refusals, orders, calls}
+use Rattle.rules.specs.Output.{headRefused, linesFrom, output, decimal, textOfAll}
+use Rattle.rules.specs.Figures.{Hold, ascii, head, caseA, windCase, plannedCase, caseF, caseG, factorCase, caseK, fiveBefores, twoPlants, filingsA, figures, refusals, orders, calls, longInputs}
 use Rattle.rules.proofs.Sound.{both, whole-length, head-used}
 use Rattle.rules.proofs.Output.{output-long, output-given, lines-no-plant}
 
@@ -74,12 +74,6 @@ module _ {A : Type 0} (on : Equality A) where
   hold [] e = refl
   hold (x ∷ xs) e = let t = both (agree x) (all agree xs) e in ap₂ _∷_ (on .equal (x .0) (x .1) (t .0)) (hold xs (t .1))
 
-  -- the test on the first n entries alone
-  hold-past : (n : ℕ) (entries : List (A × A)) → all agree (take n entries) ≡ true → Hold (drop n entries) → Hold entries
-  hold-past n [] e rest = refl
-  hold-past zero (x ∷ xs) e rest = rest
-  hold-past (suc n) (x ∷ xs) e rest = let t = both (agree x) (all agree (take n xs)) e in ap₂ _∷_ (on .equal (x .0) (x .1) (t .0)) (hold-past n xs (t .1) rest)
-
 -- ---- the examples
 
 -- to unfold this is to unfold every definition that the examples compute with
@@ -98,6 +92,10 @@ refusals-hold = hold naturals refusals refl
 pub orders-hold : Hold orders
 unfolding rules orders
 orders-hold = hold (lists integers) orders refl
+
+pub calls-hold : Hold calls
+unfolding rules calls
+calls-hold = hold (lists naturals) calls refl
 
 -- inputs of 65,536 bytes and more, by laws: to count so many bytes takes long
 module _ (n : ℕ) where
@@ -121,11 +119,16 @@ module _ (n : ℕ) where
       let used = plain-used whole in
       output-given plain 1 (omega (arith, plain-size)) used ∙ lines-no-plant plain 1 used 1 1 (rw used)
 
--- two such entries of `calls` stand behind 24 others
-pub calls-hold : Hold calls
-unfolding rules calls
-calls-hold =
-    hold-past (lists naturals) 24 calls refl
-    (ap₂ _∷_ (ap textOfAll (no-plant 65504 refl (omega arith)))
-    (ap₂ _∷_ (ap textOfAll (output-long (plain 65536) (omega (arith, plain-size 65536))))
-    (hold (lists naturals) (drop 26 calls) refl)))
+no-lines : textOfAll [] ≡ []
+unfolding textOfAll
+no-lines = refl
+
+head-line : textOfAll headRefused ≡ ascii "E 0 0 1\n"
+unfolding textOfAll decimal flatMap
+head-line = refl
+
+pub long-inputs-hold : Hold longInputs
+unfolding longInputs
+long-inputs-hold =
+    ap₂ _∷_ (ap textOfAll (no-plant 65504 refl (omega arith)) ∙ no-lines)
+    (ap₂ _∷_ (ap textOfAll (output-long (plain 65536) (omega (arith, plain-size 65536))) ∙ head-line) refl)

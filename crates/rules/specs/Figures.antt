@@ -437,15 +437,20 @@ calls =
     ∷ (hosting caseA 1 1 (replicate 23 9) (replicate 24 9), 13 ∷ replicate 47 9)
     -- the program: case a as 01 prints it
     ∷ (textOfAll (output caseA), ascii "M 1 1 3 224999 6\nQ 1 74999\nQ 2 75000\nQ 3 75000\n")
-    -- a refused head; no plant, in up to 65,536 bytes; a longer input
+    -- a refused head; no plant
     ∷ (textOfAll (output (take 33 caseA)), ascii "E 0 0 1\n")
     ∷ (textOfAll (output (head 1 0)), [])
-    ∷ (textOfAll (output (head 1 0 ++ unused 2047)), [])
-    ∷ (textOfAll (output (head 1 0 ++ unused 2048)), ascii "E 0 0 1\n")
     -- a refused measure leads on to the next one, the last measure of a plant to the next plant
     ∷ (textOfAll (output twoPlants), ascii "E 1 1 8\nM 1 2 1 -25000 4\nQ 1 -25000\nM 2 1 1 154725 4\nQ 1 154725\n")
     -- 2 or 3 ends the program after its line: on a measure's own chain, though others would settle, and on the plants' chain
     ∷ (textOfAll (output (withWord twoPlants 2 12 2)), ascii "E 1 1 2\n")
     ∷ (textOfAll (output (withWord twoPlants 2 12 3)), ascii "E 1 1 3\n")
     ∷ (textOfAll (output (withWord twoPlants 1 4 1)), ascii "E 1 1 8\nM 1 2 1 -25000 4\nQ 1 -25000\nE 2 1 2\n")
+    ∷ []
+
+-- the program on long inputs: no plant, in 65,536 bytes; 32 bytes more
+unfoldable pub longInputs : List (List ℕ × List ℕ)
+longInputs =
+    (textOfAll (output (head 1 0 ++ unused 2047)), [])
+    ∷ (textOfAll (output (head 1 0 ++ unused 2048)), ascii "E 0 0 1\n")
     ∷ []

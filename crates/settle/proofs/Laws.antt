@@ -1,12 +1,11 @@
 -- Settle's promise, by what the tests before the list found.
-use mathlib.Core.Path.{_≡_, refl, sym, _∙_, ap, subst}
+use mathlib.Core.Path.{_≡_, refl, sym, _∙_, ap}
 use mathlib.Core.List.{List, _++_}
 use Prim.Native.Nat.{ℕ, _≤_, _<_, min}
 use native.Mathlib.Omega.{arith}
 use borrow.Author.Tests.{le-leb, lt-leb}
 use lib.IntN.{ℤ}
 use lib.ListN.{length, take, drop}
-use lib.Seq.{length-take-le}
 use Rattle.rules.specs.Outcome.{Outcome, refused, given, _>>=_, _>>_, require}
 use Rattle.rules.specs.Refusals.{noRoom}
 use Rattle.rules.specs.Numbers.{sumℤ}
@@ -15,23 +14,17 @@ use Rattle.rules.specs.Settle.{Answer, answerOf, Settlement, countOf, settled, 
 use Rattle.rules.specs.Promises.{Settles}
 use Rattle.rules.proofs.Demand.{settle-keeps}
 use Rattle.units.specs.declared.WattHour.{WattHour}
+use Rattle.measure.specs.declared.Measure.{Measure}
+use Rattle.measure.specs.declared.Prepared.{Prepared}
+use Rattle.measure.specs.declared.Prepared.the-variants as prepared
+use Rattle.measure.specs.Answers.{Stands, Prepares}
+use Rattle.measure.proofs.Laws.{in-sheet, sheet-length, not-ready}
 use Rattle.settle.specs.declared.Settled.the-variants as answer
-use Rattle.settle.specs.declared.Measure.{Measure}
-use Rattle.settle.specs.declared.Prepared.{Prepared}
-use Rattle.settle.specs.declared.Prepared.the-variants as prepared
-use Rattle.settle.specs.Answers.{answered, preparedNumber, Stands, Prepares}
+use Rattle.settle.specs.Answers.{answered, preparedNumber}
 
 same-answer : (count count′ : ℕ) (total total′ : ℤ) (links links′ : ℕ) → count ≡ count′ → total ≡ total′ → links ≡ links′
     → _≡_ {A = Answer} (record { number = 0; count = count; total = total; links = links }) (record { number = 0; count = count′; total = total′; links = links′ })
 same-answer count count′ total total′ links links′ c t l = rw (c, t, l)
-
--- a sheet that has a place for each quarter that a list of so many places can take
-module _ {o : Outcome Settlement} {sheet : List ℕ} {m : Measure} (s : Stands o sheet m) {places : ℕ} (room : min places 2976 ≤ length sheet) (h : m .count ≤ places) where
-  pub in-sheet : m .count ≤ length sheet
-  in-sheet = omega (arith, s .few)
-
-  pub sheet-length : length (take (m .count) sheet) ≡ m .count
-  sheet-length = length-take-le (m .count) sheet in-sheet
 
 module _ (archive : List ℕ) (p k : ℕ) (list : List ℤ) where
   -- an outcome of settle known whole
@@ -85,15 +78,7 @@ module _ (archive : List ℕ) (p k : ℕ) (list : List ℤ) where
 -- ---- by the answer of the tests
 
 module _ (archive : List ℕ) (p k : ℕ) (sheet : List ℕ) (x : Prepared) (h : Prepares (settled archive p k) sheet x) where
-  pub ready : (m : Measure) → x ≡ prepared.Ready m → Stands (settled archive p k) sheet m
-  unfolding Prepares
-  ready m e = subst (Prepares (settled archive p k) sheet) e h
-
-  pub not-ready : (n : ℕ) → x ≡ prepared.Refused n → settled archive p k ≡ refused n
-  unfolding Prepares
-  not-ready n e = subst (Prepares (settled archive p k) sheet) e h
-
   pub settles-unready : (list : List ℤ) (n r : ℕ) → x ≡ prepared.Refused n → r ≡ preparedNumber x → Settles archive p k list list (answered (answer.Refused r))
   settles-unready list n r e f =
       let same : r ≡ n = f ∙ ap preparedNumber e in
-      rw same (settles-refused archive p k list n (not-ready n e))
+      rw same (settles-refused archive p k list n (not-ready archive p k sheet x h n e))

@@ -1,32 +1,10 @@
 // Settle (document 01, 'Calls on the archive'): the amounts of one measure into a lent list.
 ghost use mathlib.Core.Path.{_≡_};
-ghost use mathlib.Core.Bool.{true};
-ghost use mathlib.Core.List.{List};
-ghost use Prim.Native.Nat.{ℕ, _≤_, min};
+ghost use Prim.Native.Nat.{_≤_, min};
 ghost use lib.ListN.{length};
-ghost use Rattle.rules.specs.Outcome.{Outcome, given};
-ghost use Rattle.rules.specs.Archive.{recordAt};
-ghost use Rattle.rules.specs.Terms.{Point, plantAllowed};
-ghost use Rattle.rules.specs.declared.Technology.the-variants.{Wind as wind};
-ghost use Rattle.rules.specs.declared.Variant.the-variants.{Spitz as spitz};
-ghost use Rattle.rules.specs.Settle.{Basis, basisBy, basisOf, settled};
 ghost use Rattle.rules.specs.Promises.{Settles};
-ghost use Rattle.place.specs.Places.{meant, Lies};
-ghost use Rattle.curve.specs.Tables.{Low};
-ghost use Rattle.energy.specs.References.{meaning, Bounded};
-ghost use Rattle.exact.specs.Exacts.{Curved, Tabled};
-ghost use Rattle.basis.specs.Based.{basedAnswer};
-ghost use Rattle.settle.specs.Answers.{answered, preparedNumber, Prepares, settledOn, OffCurve, BasedOffCurve, HeldWell};
-use basis::Based;
-use curve::Curve;
-use curve::CurveAnswer;
-use energy::reference::Reference;
-use place::Place;
-use place::Placed;
-use quarters::Walked;
-use rules::Direction;
-use rules::Technology;
-use rules::Variant;
+ghost use Rattle.settle.specs.Answers.{answered, preparedNumber};
+use measure::Prepared;
 use rules::refusal;
 use units::WattHour;
 
@@ -35,168 +13,6 @@ pub enum Settled {
     Given(u64, WattHour, u64),
     Refused(u64),
 }
-
-// A measure whose tests have all passed: its exact magnitudes are the first `count` numbers of a sheet, over `denominator`.
-pub struct Measure {
-    pub direction: Direction,
-    pub denominator: u64,
-    pub count: u64,
-    pub links: u64,
-}
-
-pub enum Prepared {
-    Ready(Measure),
-    Refused(u64),
-}
-
-// ---- every test but that of the lent list
-
-// The quarters, where the reference is known; `links` were followed for it.
-fn measured(
-    archive: &[u8],
-    place: Place,
-    reference: Reference,
-    curve: Curve,
-    table: &[u64],
-    links: u64,
-    sheet: &mut [u64],
-) -> Prepared
-    requires { ⌜ Lies (now archive) place ⌝ }
-    requires { ⌜ Bounded reference ⌝ }
-    requires { ⌜ Tabled reference curve (now table) ⌝ }
-    requires { ⌜ (place .links ≤ 65535) × (links ≤ 131072) ⌝ }
-    ensures { λ r. ⌜ ((points : List Point) → Curved reference curve (now (table .entry)) points
-        → Prepares (settledOn (now (archive .entry)) (meant (now (archive .entry)) place) (given (record { reference = meaning reference points; links = links }))) (now (sheet .exit)) r) ⌝ }
-{
-    match quarters::walk(archive, place, reference, curve, table, sheet) {
-        Walked::Refused(n) => Prepared::Refused(n),
-        Walked::Count(count) => {
-            let m = place.measure as usize;
-            let direction = terms::direction_of(&archive[32 * m..32 * m + 32]);
-            let measure = Measure {
-                direction,
-                denominator: 4 * energy::reference::denominator(reference),
-                count,
-                links: place.links + links + count,
-            };
-            Prepared::Ready(measure)
-        }
-    }
-}
-
-// Wind Spitz, with a table for the curve: the curve's points, then the before-quarters.
-fn on_curve(archive: &[u8], place: Place, table: &mut [u64], sheet: &mut [u64]) -> Prepared
-    requires { ⌜ Lies (now archive) place ⌝ }
-    requires { ⌜ plantAllowed (recordAt (now archive) (place .plant)) ≡ true ⌝ }
-    requires { ⌜ (length (now table) ≡ 1001) × Low (now table) ⌝ }
-    requires { ⌜ place .links ≤ 65535 ⌝ }
-    ensures { λ r. ⌜ Prepares (settledOn (now (archive .entry)) (meant (now (archive .entry)) place) (basisBy wind spitz (now (archive .entry)) (meant (now (archive .entry)) place))) (now (sheet .exit)) r ⌝ }
-{
-    match curve::read_points(archive, place, table) {
-        CurveAnswer::Refused(n) => Prepared::Refused(n),
-        CurveAnswer::Read(curve, points) => {
-            match basis::wind(archive, place, curve, table, points) {
-                Based::Refused(n) => Prepared::Refused(n),
-                Based::On(reference, links) => {
-                    measured(archive, place, reference, curve, table, links, sheet)
-                }
-            }
-        }
-    }
-}
-
-fn wind_spitz(archive: &[u8], place: Place, sheet: &mut [u64]) -> Prepared
-    requires { ⌜ Lies (now archive) place ⌝ }
-    requires { ⌜ plantAllowed (recordAt (now archive) (place .plant)) ≡ true ⌝ }
-    requires { ⌜ place .links ≤ 65535 ⌝ }
-    ensures { λ r. ⌜ Prepares (settledOn (now (archive .entry)) (meant (now (archive .entry)) place) (basisBy wind spitz (now (archive .entry)) (meant (now (archive .entry)) place))) (now (sheet .exit)) r ⌝ }
-{
-    let mut table = [0u64; 1001];
-    on_curve(archive, place, &mut table, sheet)
-}
-
-// A reference that needs no curve.
-fn off_curve(
-    archive: &[u8],
-    place: Place,
-    reference: Reference,
-    links: u64,
-    sheet: &mut [u64],
-) -> Prepared
-    requires { ⌜ Lies (now archive) place ⌝ }
-    requires { ⌜ Bounded reference × OffCurve reference ⌝ }
-    requires { ⌜ (place .links ≤ 65535) × (links ≤ 131072) ⌝ }
-    ensures { λ r. ⌜ ((points : List Point) → Prepares (settledOn (now (archive .entry)) (meant (now (archive .entry)) place) (given (record { reference = meaning reference points; links = links }))) (now (sheet .exit)) r) ⌝ }
-{
-    let table: [u64; 1] = [0];
-    let curve = Curve { first: 0, last: 0 };
-    measured(archive, place, reference, curve, &table, links, sheet)
-}
-
-// Pauschal from the before-quarters, and solar Spitz.
-fn from_before(archive: &[u8], place: Place, based: Based, sheet: &mut [u64]) -> Prepared
-    requires { ⌜ Lies (now archive) place ⌝ }
-    requires { ⌜ BasedOffCurve based ⌝ }
-    requires { ⌜ place .links ≤ 65535 ⌝ }
-    ensures { λ r. ⌜ ((o : Outcome Basis) → based ≡ basedAnswer o → HeldWell o → Prepares (settledOn (now (archive .entry)) (meant (now (archive .entry)) place) o) (now (sheet .exit)) r) ⌝ }
-{
-    match based {
-        Based::Refused(n) => Prepared::Refused(n),
-        Based::On(reference, links) => off_curve(archive, place, reference, links, sheet),
-    }
-}
-
-// By technology and variant; chains not needed aren't walked.
-fn from_basis(archive: &[u8], place: Place, sheet: &mut [u64]) -> Prepared
-    requires { ⌜ Lies (now archive) place ⌝ }
-    requires { ⌜ plantAllowed (recordAt (now archive) (place .plant)) ≡ true ⌝ }
-    requires { ⌜ place .links ≤ 65535 ⌝ }
-    ensures { λ r. ⌜ Prepares (settledOn (now (archive .entry)) (meant (now (archive .entry)) place) (basisOf (now (archive .entry)) (meant (now (archive .entry)) place))) (now (sheet .exit)) r ⌝ }
-{
-    let i = place.plant as usize;
-    let plant = &archive[32 * i..32 * i + 32];
-    let technology = terms::technology_of(plant);
-    let variant = terms::variant_of(plant);
-    match technology {
-        Technology::Wind => match variant {
-            Variant::Spitz => wind_spitz(archive, place, sheet),
-            Variant::Pauschal => from_before(
-                archive,
-                place,
-                basis::pauschal(archive, place),
-                sheet,
-            ),
-        },
-        Technology::Solar => match variant {
-            Variant::Spitz => from_before(archive, place, basis::solar(archive, place), sheet),
-            Variant::Pauschal => {
-                let pn = terms::nominal_power(plant);
-                off_curve(archive, place, Reference::ByFactor(pn), 0, sheet)
-            }
-        },
-        Technology::Other => match variant {
-            Variant::Spitz => off_curve(archive, place, Reference::AsPlanned, 0, sheet),
-            Variant::Pauschal => from_before(
-                archive,
-                place,
-                basis::pauschal(archive, place),
-                sheet,
-            ),
-        },
-    }
-}
-
-// The exact magnitudes into the sheet, as far as it has places: 1 to 12.
-pub fn prepare(archive: &[u8], p: u64, k: u64, sheet: &mut [u64]) -> Prepared
-    ensures { λ r. ⌜ Prepares (settled (now (archive .entry)) p k) (now (sheet .exit)) r ⌝ }
-{
-    match place::find(archive, p, k) {
-        Placed::Refused(n) => Prepared::Refused(n),
-        Placed::At(place) => from_basis(archive, place, sheet),
-    }
-}
-
-// ---- settle
 
 // The number of a measure that was refused.
 fn number(prepared: Prepared) -> u64
@@ -214,7 +30,7 @@ fn settle_on(archive: &[u8], p: u64, k: u64, list: &mut [i64], sheet: &mut [u64]
     requires { ⌜ min (length (now list)) 2976 ≤ length (now sheet) ⌝ }
     ensures { λ r. ⌜ Settles (now (archive .entry)) p k (now (list .entry)) (now (list .exit)) (answered r) ⌝ }
 {
-    let prepared = prepare(archive, p, k, sheet);
+    let prepared = prepare::prepare(archive, p, k, sheet);
     let Prepared::Ready(measure) = prepared else {
         return Settled::Refused(number(prepared));
     };
@@ -223,7 +39,7 @@ fn settle_on(archive: &[u8], p: u64, k: u64, list: &mut [i64], sheet: &mut [u64]
         return Settled::Refused(refusal::NO_ROOM);
     }
     let direction = measure.direction;
-    let total = energy::carry::book_all(direction, measure.denominator, &sheet[..count], list);
+    let total = booking::book_all(direction, measure.denominator, &sheet[..count], list);
     Settled::Given(measure.count, total, measure.links)
 }
 

@@ -1,38 +1,15 @@
--- Words as signed numbers, and signed numbers as the code holds them: by their bits `ofZ w64 z`, which `toZ w64` reads.
+-- Signed numbers as the code holds them: by their bits `ofZ w64 z`, which `toZ w64` reads.
 use mathlib.Core.Path.{_≡_, refl, sym, ap, _∙_, subst}
-use mathlib.Core.Bool.{Bool, true, false}
 use Prim.Native.Nat.{ℕ, _+_, _-_, _^_, _≤_, _<_}
 use native.Mathlib.Omega.{arith}
-use borrow.Author.Tests.{lt-ltb, ltb-false, le-leb, lt-leb, leb-true}
-use lib.Dec.{T, leb, ltb}
+use lib.Dec.{T}
 use lib.IntN.{ℤ, pos, negℤ, natAbs, subℕ, _+ℤ_, _-ℤ_, +ℤ-idl}
 use lib.Signed.{nonNeg, mag}
 use mir.Syntax.{w64}
 use mir.Val.{Fits, SFits, toZ, ofZ}
 use mir.Facts.{toZ-pos, toZ-ofZ}
-use Rattle.rules.specs.Numbers.{within, orZero}
-use Rattle.rules.specs.Archive.{twos}
+use Rattle.rules.specs.Numbers.{orZero}
 use Rattle.rules.proofs.Ints.{under, orZero-sub, under-sub, sub-parts, orZero-add, under-add, orZero-minus, under-minus, orZero-neg, under-neg, parts-eq, biased-eq, mag-parts, parts-mag}
-
--- ---- words
-
--- a range from 0 to less than 2 ^ 31: the word is tested as it is
-module _ (high w : ℕ) (h : high < 2 ^ 31) (k : w < 2 ^ 32) where
-  pub word-within : leb w high ≡ within (pos 0) (pos high) (twos w)
-  unfolding twos
-  word-within = go (ltb w (2 ^ 31)) refl
-    where
-      go : (t : Bool) → ltb w (2 ^ 31) ≡ t → leb w high ≡ within (pos 0) (pos high) (twos w)
-      go true e = rw (e, le-leb 0 w (omega arith))
-      go false e =
-          let l : 2 ^ 31 ≤ w = ltb-false w (2 ^ 31) e in
-          rw (e, lt-ltb w (2 ^ 32) k) (lt-leb w high (omega arith))
-
-  pub word-natural : within (pos 0) (pos high) (twos w) ≡ true → (w ≡ orZero (twos w)) × (w ≤ high)
-  unfolding twos
-  word-natural e = let l : w ≤ high = leb-true w high (word-within ∙ e) in (rw (lt-ltb w (2 ^ 31) (omega arith)), l)
-
--- ---- signed numbers held in 64 bits
 
 -- what is read of a number that is held
 abbrev pub held : ℤ → ℤ

@@ -4,13 +4,13 @@ use mathlib.Core.Logic.{⊎-elim}
 use native.Mathlib.Omega.{arith}
 use borrow.Author.Needs.{needs}
 use lib.ListN.{length, length-set}
-use Rattle.curve.specs.Steps.{point}
+use Rattle.table.specs.Lines.{point}
 use Rattle.curve.proofs.Steps.{is-not-rising, first-set, next-set}
 use Rattle.curve.proofs.add_point.Statement.{statement}
 use Rattle.curve.proofs.add_point.Tie as tie
 use Rattle.curve.proofs.add_point.Reads as reads
 use Rattle.curve.proofs.add_point.Lts as lts
-use Rattle.curve.proofs.fill.Reads as fill-reads
+use Rattle.table.proofs.fill.Reads as fill-reads
 
 returns : tie.Need-returns
 returns c =

@@ -7,12 +7,12 @@ use Rattle.curve.proofs.read_point.Statement.{statement}
 use Rattle.curve.proofs.read_point.Tie as tie
 use Rattle.curve.proofs.read_point.Reads as reads
 use Rattle.curve.proofs.read_point.Lts as lts
-use Rattle.archive.proofs.link_at.Reads as link-at-reads
-use Rattle.archive.proofs.watt_at.Reads as watt-at-reads
+use Rattle.fields.proofs.link_at.Reads as link-at-reads
+use Rattle.fields.proofs.watt_at.Reads as watt-at-reads
 use Rattle.curve.proofs.add_point.Reads as add-point-reads
 use Rattle.units.proofs.is_curve_power.Reads as is-curve-power-reads
-use Rattle.units.proofs.is_speed.Reads as is-speed-reads
-use Rattle.units.proofs.speed_of.Reads as speed-of-reads
+use Rattle.weather.proofs.is_speed.Reads as is-speed-reads
+use Rattle.weather.proofs.speed_of.Reads as speed-of-reads
 use Rattle.units.proofs.unsigned.Reads as unsigned-reads
 
 link-at-requires : tie.Need-link-at-requires

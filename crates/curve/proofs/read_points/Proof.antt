@@ -10,17 +10,18 @@ use Rattle.rules.specs.Archive.{pointKind, chain}
 use Rattle.rules.proofs.Chains.{record-part}
 use Rattle.rules.proofs.Parts.{start-fits, end-fits, end-within, start-end, part-size}
 use Rattle.rules.proofs.Folds.{gatheredFrom}
-use Rattle.archive.proofs.Laws.{Met, met, link-nearer, no-at}
-use Rattle.curve.specs.Steps.{InRange, walk, noPoints, lastRead}
+use Rattle.chains.proofs.Laws.{Met, met, link-nearer, no-at}
+use Rattle.table.specs.Lines.{InRange}
+use Rattle.curve.specs.Steps.{walk, noPoints, lastRead}
 use Rattle.curve.proofs.Points.{stepped}
 use Rattle.curve.proofs.Walks.{turned, walk-ended, walk-refused}
 use Rattle.curve.proofs.read_points.Statement.{statement}
 use Rattle.curve.proofs.read_points.Tie as tie
 use Rattle.curve.proofs.read_points.Reads as reads
 use Rattle.curve.proofs.read_points.Lts as lts
-use Rattle.archive.proofs.follow.Reads as follow-reads
-use Rattle.archive.proofs.link_of.Reads as link-of-reads
-use Rattle.archive.proofs.refusal_of.Reads as refusal-of-reads
+use Rattle.chains.proofs.follow.Reads as follow-reads
+use Rattle.fields.proofs.link_of.Reads as link-of-reads
+use Rattle.chains.proofs.refusal_of.Reads as refusal-of-reads
 use Rattle.curve.proofs.answer_of.Reads as answer-of-reads
 use Rattle.curve.proofs.read_point.Reads as read-point-reads
 

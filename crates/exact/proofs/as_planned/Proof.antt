@@ -3,7 +3,7 @@ use mathlib.Core.Path.{subst}
 use Rattle.units.proofs.Laws.{back}
 use Rattle.rules.specs.Archive.{fieldAt}
 use Rattle.rules.specs.Terms.{quarterOf}
-use Rattle.exact.specs.Exacts.{PowerOf}
+use Rattle.limits.specs.Limits.{PowerOf}
 use Rattle.exact.proofs.Exacts.{planned-referred}
 use borrow.Author.Needs.{needs}
 use Rattle.exact.proofs.as_planned.Statement.{statement}

@@ -11,7 +11,8 @@ use Rattle.rules.specs.Reference.{curvePower}
 use Rattle.units.proofs.Laws.{back}
 use Rattle.energy.proofs.Laws.{times-fits, times-is}
 use Rattle.energy.proofs.References.{up-to-small}
-use Rattle.exact.proofs.Exacts.{out-of-range, in-range, curve-referred}
+use Rattle.limits.proofs.Limits.{out-of-range, in-range}
+use Rattle.exact.proofs.Exacts.{curve-referred}
 use borrow.Author.Needs.{needs}
 use Rattle.exact.proofs.on_curve.Statement.{statement}
 use Rattle.exact.proofs.on_curve.Tie as tie

@@ -11,7 +11,8 @@ use Rattle.rules.specs.Archive.{twos, fieldAt}
 use Rattle.rules.specs.Terms.{isIrradiance, quarterOf}
 use Rattle.units.proofs.Laws.{back}
 use Rattle.energy.proofs.Laws.{times-fits, times-is}
-use Rattle.exact.proofs.Exacts.{out-of-range, in-range, irradiance-referred}
+use Rattle.limits.proofs.Limits.{out-of-range, in-range}
+use Rattle.exact.proofs.Exacts.{irradiance-referred}
 use borrow.Author.Needs.{needs}
 use Rattle.exact.proofs.on_irradiance.Statement.{statement}
 use Rattle.exact.proofs.on_irradiance.Tie as tie

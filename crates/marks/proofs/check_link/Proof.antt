@@ -1,7 +1,7 @@
 -- `marks::check_link` meets its contract.
 use native.Mathlib.Omega.{arith}
 use borrow.Author.Needs.{needs}
-use Rattle.archive.proofs.Laws.{no-at}
+use Rattle.chains.proofs.Laws.{no-at}
 use Rattle.marks.proofs.Laws.{led, link-answered, link-marked}
 use Rattle.marks.proofs.check_link.Statement.{statement}
 use Rattle.marks.proofs.check_link.Tie as tie

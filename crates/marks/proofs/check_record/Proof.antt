@@ -12,17 +12,17 @@ use Rattle.rules.specs.Links.{Link, link, ownedBy, standsAt}
 use Rattle.rules.specs.Audit.{linkChecked, linksChecked}
 use Rattle.rules.proofs.Chains.{record-part}
 use Rattle.rules.proofs.Parts.{start-fits, end-fits, end-within, start-end, part-size}
-use Rattle.marks.specs.Answers.{ownedLinks}
+use Rattle.kinds.specs.Answers.{ownedLinks}
 use Rattle.marks.specs.Marks.{Checked}
 use Rattle.marks.proofs.Laws.{checked-none, then-stops, then-goes, checked-last, RecordChecked, head-done, unknown-done, known-done}
 use Rattle.marks.proofs.check_record.Statement.{statement}
 use Rattle.marks.proofs.check_record.Tie as tie
 use Rattle.marks.proofs.check_record.Reads as reads
 use Rattle.marks.proofs.check_record.Lts as lts
-use Rattle.archive.proofs.kind_of.Reads as kind-of-reads
+use Rattle.fields.proofs.kind_of.Reads as kind-of-reads
 use Rattle.marks.proofs.check_link.Reads as check-link-reads
-use Rattle.marks.proofs.is_kind.Reads as is-kind-reads
-use Rattle.marks.proofs.owned_by.Reads as owned-by-reads
+use Rattle.kinds.proofs.is_kind.Reads as is-kind-reads
+use Rattle.kinds.proofs.owned_by.Reads as owned-by-reads
 
 abbrev claims : lts.Claims
 claims = (

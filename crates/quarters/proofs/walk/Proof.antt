@@ -7,7 +7,7 @@ use borrow.Author.Needs.{needs}
 use borrow.Author.Tests.{not-true, not-false}
 use Rattle.rules.specs.Archive.{recordAt}
 use Rattle.rules.proofs.Parts.{start-fits, end-fits, end-within, start-end, part-size}
-use Rattle.archive.proofs.Laws.{no-at, met, link-nearer, chain-none}
+use Rattle.chains.proofs.Laws.{no-at, met, link-nearer, chain-none}
 use Rattle.quarters.proofs.Walks.{state, Going, going-starts, going-counts, going-on, walks-refused, walks-uncounted, walks-unreadable, walks-given}
 use Rattle.quarters.proofs.walk.Statement.{statement}
 use Rattle.quarters.proofs.walk.Tie as tie

@@ -1,6 +1,7 @@
 use Prim.Native.Nat.{_≤_, min}
 use lib.ListN.{length}
-use Rattle.settle.proofs.Laws.{ready, in-sheet, sheet-length, list-long, settles-unready, settles-short, settles-given}
+use Rattle.measure.proofs.Laws.{ready, in-sheet, sheet-length}
+use Rattle.settle.proofs.Laws.{list-long, settles-unready, settles-short, settles-given}
 use native.Mathlib.Omega.{arith}
 use mathlib.Core.Path.{refl, sym}
 use borrow.Author.Needs.{needs}
