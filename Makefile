@@ -30,7 +30,9 @@ test:
 program:
 	rt check sandegmur
 
+# What the library stands on first, crates of one level beside each other.
 lib:
+	rt check encoding filing prepare
 	rt staticlib host
 	mkdir -p $(LIB)
 	cp target/staticlib/libhost.a $(LIB)/libsandegmur.a
