@@ -53,7 +53,7 @@ pub fn read_head(archive: &[u8]) -> Head
     if !is_text(&archive[0..32]) {
         return Head::Refused(refusal::NOT_ARCHIVE);
     }
-    let used = fields::link_of(archive, 0, 4);
+    let used = record::link_of(archive, 0, 4);
     if used < 1 || ((archive.len() / 32) as u64) < used {
         return Head::Refused(refusal::NOT_ARCHIVE);
     }

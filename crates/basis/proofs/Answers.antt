@@ -20,14 +20,14 @@ use Rattle.rules.proofs.Folds.{gatheredFrom}
 use Rattle.rules.proofs.Ints.{biased-eq}
 use Rattle.units.specs.declared.Watt.{Watt}
 use Rattle.energy.specs.declared.reference.Reference.the-variants.{OnCurve, LastMeasured, OnIrradiance}
-use Rattle.sums.specs.declared.Purpose.{Purpose}
-use Rattle.sums.specs.declared.Purpose.the-variants.{Four, First, All}
-use Rattle.sums.specs.declared.Sums.{Sums}
-use Rattle.sums.specs.Sums.{powerBias}
-use Rattle.before.specs.declared.Walk.{Walk}
-use Rattle.before.specs.declared.Gathered.{Gathered}
-use Rattle.before.specs.declared.Gathered.the-variants as gathered
-use Rattle.before.specs.Walks.{noSums, start, steppedBy, RoomIn, passed, gatheredOf, gatheredAnswer, RoomGathered}
+use Rattle.comparison.specs.declared.Purpose.{Purpose}
+use Rattle.comparison.specs.declared.Purpose.the-variants.{Four, First, All}
+use Rattle.comparison.specs.declared.Sums.{Sums}
+use Rattle.comparison.specs.Sums.{powerBias}
+use Rattle.comparison.specs.declared.Walk.{Walk}
+use Rattle.comparison.specs.declared.Gathered.{Gathered}
+use Rattle.comparison.specs.declared.Gathered.the-variants as gathered
+use Rattle.comparison.specs.Walks.{noSums, start, steppedBy, RoomIn, passed, gatheredOf, gatheredAnswer, RoomGathered}
 use Rattle.basis.specs.declared.Based.{Based}
 use Rattle.basis.specs.declared.Based.the-variants.{On, Refused}
 use Rattle.basis.specs.Based.{basedAnswer, windOf, solarOf}

@@ -25,11 +25,11 @@ use Rattle.rules.proofs.Ints.{under, parts-eq, orZero-add, under-add, mag-parts
 use Rattle.rules.proofs.Ranges.{within-natural, within-signed}
 use Rattle.rules.proofs.Sound.{both}
 use Rattle.rules.proofs.Lists.{all-passed, all-weaker, sum-low}
-use Rattle.plants.proofs.Laws.{nominal-is}
+use Rattle.terms.proofs.Laws.{nominal-is}
 use Rattle.energy.specs.declared.reference.Reference.{Reference}
 use Rattle.energy.specs.References.{meaning, Bounded}
 use Rattle.energy.proofs.References.{power-small}
-use Rattle.sums.proofs.Taken.{passes}
+use Rattle.comparison.proofs.Taken.{passes}
 use Rattle.basis.specs.declared.Based.{Based}
 use Rattle.basis.specs.declared.Based.the-variants.{On, Refused}
 use Rattle.basis.specs.Based.{held, basedAnswer}

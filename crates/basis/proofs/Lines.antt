@@ -9,7 +9,7 @@ use lib.Dec.{ltb}
 use Rattle.rules.specs.Terms.{Point}
 use Rattle.rules.specs.Reference.{below, on, above, lineAt, readCurve, powerOf, curvePower}
 use Rattle.rules.proofs.Inversion.{All, none, more}
-use Rattle.table.proofs.Line.{line-low}
+use Rattle.curve.proofs.Line.{line-low}
 
 reading-low : (top : ℕ) (points : List Point) (v : ℕ) → All (λ x. x .power ≤ top) points → powerOf (readCurve points v) ≤ top
 unfolding readCurve

@@ -20,13 +20,13 @@ use Rattle.rules.proofs.Folds.{gathered}
 use Rattle.rules.proofs.Ints.{biased-add, biased-eq, orZero-add, le-parts}
 use Rattle.rules.proofs.Ranges.{within-signed}
 use Rattle.rules.proofs.Sound.{both}
-use Rattle.sums.specs.declared.Purpose.{Purpose}
-use Rattle.sums.specs.declared.Purpose.the-variants.{Four, First, All}
-use Rattle.sums.specs.declared.Sums.{Sums}
-use Rattle.sums.specs.Sums.{powerBias, raised, taken}
-use Rattle.sums.proofs.Taken.{ten-above, ten-under}
-use Rattle.before.specs.declared.Walk.{Walk}
-use Rattle.before.specs.Walks.{withTaken, stepped, steppedBy, passed}
+use Rattle.comparison.specs.declared.Purpose.{Purpose}
+use Rattle.comparison.specs.declared.Purpose.the-variants.{Four, First, All}
+use Rattle.comparison.specs.declared.Sums.{Sums}
+use Rattle.comparison.specs.Sums.{powerBias, raised, taken}
+use Rattle.comparison.proofs.Taken.{ten-above, ten-under}
+use Rattle.comparison.specs.declared.Walk.{Walk}
+use Rattle.comparison.specs.Walks.{withTaken, stepped, steppedBy, passed}
 
 unfoldable pub rest : Purpose → List Point → ℕ → Sums → List Before → Outcome Basis
 rest (Four pn) points links s xs =

@@ -8,14 +8,14 @@ ghost use Rattle.rules.specs.Archive.{recordAt};
 ghost use Rattle.rules.specs.Terms.{Point, plantAllowed};
 ghost use Rattle.rules.specs.Settle.{pauschalBasis};
 ghost use Rattle.place.specs.Places.{meant, Lies};
-ghost use Rattle.table.specs.Tables.{Low, Tabulates};
+ghost use Rattle.curve.specs.Tables.{Low, Tabulates};
 ghost use Rattle.basis.specs.Based.{basedAnswer, windOf, solarOf};
-use before::Gathered;
+use comparison::Gathered;
+use comparison::Purpose;
+use curve::Curve;
 use energy::reference::Reference;
 use place::Place;
 use rules::refusal;
-use sums::Purpose;
-use table::Curve;
 use units::Irradiance;
 
 // A reference and the links followed for it, or a refusal.
@@ -33,8 +33,8 @@ pub fn wind(archive: &[u8], place: Place, curve: Curve, table: &[u64], links: u6
         → r ≡ basedAnswer (windOf (now (archive .entry)) (meant (now (archive .entry)) place) points)) ⌝ }
 {
     let i = place.plant as usize;
-    let pn = plants::nominal_power(&archive[32 * i..32 * i + 32]);
-    match before::gather(
+    let pn = terms::nominal_power(&archive[32 * i..32 * i + 32]);
+    match comparison::gather(
         archive,
         place,
         Purpose::Four(units::unsigned(pn)),
@@ -70,7 +70,7 @@ pub fn pauschal(archive: &[u8], place: Place) -> Based
     ensures { λ r. ⌜ r ≡ basedAnswer (pauschalBasis (now (archive .entry)) (meant (now (archive .entry)) place)) ⌝ }
 {
     let no_table: [u64; 1] = [0];
-    match before::gather(archive, place, Purpose::First, NO_CURVE, &no_table) {
+    match comparison::gather(archive, place, Purpose::First, NO_CURVE, &no_table) {
         Gathered::Of(first) => {
             if first.sums.used == 0 {
                 return Based::Refused(refusal::TOO_FEW_USABLE);
@@ -88,7 +88,7 @@ pub fn solar(archive: &[u8], place: Place) -> Based
     ensures { λ r. ⌜ r ≡ basedAnswer (solarOf (now (archive .entry)) (meant (now (archive .entry)) place)) ⌝ }
 {
     let no_table: [u64; 1] = [0];
-    match before::gather(archive, place, Purpose::All, NO_CURVE, &no_table) {
+    match comparison::gather(archive, place, Purpose::All, NO_CURVE, &no_table) {
         Gathered::Of(all) => {
             if all.sums.used == 0 {
                 return Based::Refused(refusal::TOO_FEW_USABLE);

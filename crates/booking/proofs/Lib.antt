@@ -1,3 +1,4 @@
 pub mod Written
 pub mod Lies
 pub mod Steps
+pub mod Places

@@ -29,7 +29,7 @@ fn mix_amount(sum: u64, amount: i64) -> u64
     requires { ⌜ sum < 10000000000000061 ⌝ }
     ensures { λ r. ⌜ r < 10000000000000061 ⌝ }
 {
-    let n = decimal::magnitude(amount);
+    let n = text::magnitude(amount);
     if amount < 0 {
         return mix(sum, MODULUS - n % MODULUS);
     }
@@ -131,20 +131,20 @@ struct Call {
 fn double_word(r: &[u8], at: usize) -> u64
     requires { ⌜ at + 8 ≤ length (now r) ⌝ }
 {
-    fields::link_at(r, at) + 4294967296 * fields::link_at(r, at + 4)
+    record::link_at(r, at) + 4294967296 * record::link_at(r, at + 4)
 }
 
 fn call_of(r: &[u8]) -> Call
     requires { ⌜ length (now r) ≡ 36 ⌝ }
 {
     Call {
-        name: fields::link_at(r, 0),
+        name: record::link_at(r, 0),
         first: double_word(r, 4),
         second: double_word(r, 12),
-        given: fields::link_at(r, 20) as usize,
-        size: fields::link_at(r, 24) as usize,
-        filed: fields::link_at(r, 28) as usize,
-        places: fields::link_at(r, 32) as usize,
+        given: record::link_at(r, 20) as usize,
+        size: record::link_at(r, 24) as usize,
+        filed: record::link_at(r, 28) as usize,
+        places: record::link_at(r, 32) as usize,
     }
 }
 
@@ -156,7 +156,7 @@ fn answer_to(call: Call, archive: &mut [u8], new: &[u8], list: &mut [i64]) -> An
         return append_call(archive, call.first, new);
     }
     if call.name == 3 {
-        return number_only(filing::audit(archive), 0);
+        return number_only(audit::audit(archive), 0);
     }
     if call.name == 4 {
         return show_call(archive, call.first);
@@ -170,12 +170,12 @@ fn put_line(answer: Answer, out: &mut [u8]) -> usize
     requires { ⌜ 128 ≤ length (now out) ⌝ }
     ensures { λ r. ⌜ r ≤ 128 ⌝ }
 {
-    let a = decimal::put_decimal(out, 0, answer.number);
-    let b = decimal::put_number(out, a, answer.count);
-    let c = decimal::put_amount(out, b, answer.total);
-    let d = decimal::put_number(out, c, answer.links);
-    let e = decimal::put_number(out, d, answer.sum);
-    decimal::put_byte(out, e, b'\n')
+    let a = text::put_decimal(out, 0, answer.number);
+    let b = text::put_number(out, a, answer.count);
+    let c = text::put_amount(out, b, answer.total);
+    let d = text::put_number(out, c, answer.links);
+    let e = text::put_number(out, d, answer.sum);
+    text::put_byte(out, e, b'\n')
 }
 
 fn write_line(answer: Answer) -> bool {

@@ -27,7 +27,7 @@ pub fn follow(archive: &[u8], used: u64, kind: u8, holder: u64, link: u64) -> Li
         return Link::Refused(refusal::BAD_LINK);
     }
     let i = link as usize;
-    if fields::kind_of(&archive[32 * i..32 * i + 32]) != kind {
+    if record::kind_of(&archive[32 * i..32 * i + 32]) != kind {
         return Link::Refused(refusal::WRONG_KIND);
     }
     Link::At(link)
@@ -80,7 +80,7 @@ pub fn walk_to(
             return Reach::At(n, links);
         }
         reached = n;
-        link = fields::link_of(archive, n, 4);
+        link = record::link_of(archive, n, 4);
         links += 1;
     }
 }
@@ -98,7 +98,7 @@ pub fn walk_all(archive: &[u8], used: u64, kind: u8, holder: u64, offset: u64) -
 {
     let mut last = holder;
     let mut at = offset;
-    let mut link = fields::link_of(archive, holder, offset as usize);
+    let mut link = record::link_of(archive, holder, offset as usize);
     let mut links: u64 = 0;
     while link != 0 {
         let answer = follow(archive, used, kind, last, link);
@@ -107,7 +107,7 @@ pub fn walk_all(archive: &[u8], used: u64, kind: u8, holder: u64, offset: u64) -
         };
         last = n;
         at = 4;
-        link = fields::link_of(archive, last, 4);
+        link = record::link_of(archive, last, 4);
         links += 1;
     }
     ChainEnd::At(32 * last + at, links)

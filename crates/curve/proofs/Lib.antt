@@ -1,4 +1,3 @@
-pub mod Steps
-pub mod Points
-pub mod Curves
-pub mod Walks
+pub mod Line
+pub mod Fills
+pub mod Readings

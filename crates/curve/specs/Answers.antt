@@ -1,22 +1,11 @@
--- What each answer of the code stands for: document 01's number and values for each case.
-use Prim.Native.Nat.{ℕ}
-use mathlib.Core.Path.{_≡_}
-use mathlib.Core.List.{List}
-use lib.ListN.{length}
-use Rattle.rules.specs.Outcome.{Outcome, refused, given}
-use Rattle.rules.specs.Terms.{Point}
-use Rattle.table.specs.declared.Curve.{Curve}
-use Rattle.table.specs.Tables.{Tabulates}
-use Rattle.curve.specs.declared.CurveAnswer.{CurveAnswer}
-use Rattle.curve.specs.declared.CurveAnswer.the-variants as answer
+-- What each answer of the code stands for: document 01's value for each case.
+use lib.IntN.{pos}
+use Rattle.rules.specs.Reference as reference
+use Rattle.curve.specs.declared.CurveReading.{CurveReading}
+use Rattle.curve.specs.declared.CurveReading.the-variants as reading
 
--- these points, read: the links followed, one to each point, and the table of their curve
-pub record PointsTabulated (points : List Point) (r : CurveAnswer) (table : List ℕ) : Type 0 where
-  pub curve : Curve
-  pub is : r ≡ answer.Read curve (length points)
-  pub tabulates : Tabulates curve table points
-
--- the points, or 2, 3, 9 or 10
-abbrev pub CurveRead : Outcome (List Point) → CurveAnswer → List ℕ → Type 0
-CurveRead (refused n) r table = r ≡ answer.Refused n
-CurveRead (given points) r table = PointsTabulated points r table
+-- below the first point, on the curve with a power in W, or above the last point
+abbrev pub readingAnswer : reference.CurveReading → CurveReading
+readingAnswer reference.below = reading.Below
+readingAnswer (reference.on power) = reading.On (record { 0 = pos power })
+readingAnswer reference.above = reading.Above

@@ -1,2 +1,3 @@
-pub mod Steps
+pub mod Tables
+pub mod Lines
 pub mod Answers

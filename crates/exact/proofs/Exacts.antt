@@ -28,7 +28,7 @@ use Rattle.energy.specs.declared.reference.Reference.{Reference}
 use Rattle.energy.specs.declared.reference.Reference.the-variants.{OnCurve, LastMeasured, OnIrradiance, ByFactor, AsPlanned}
 use Rattle.energy.specs.References.{meaning, Bounded}
 use Rattle.energy.proofs.References.{power-small, divides}
-use Rattle.table.specs.declared.Curve.{Curve}
+use Rattle.curve.specs.declared.Curve.{Curve}
 use Rattle.limits.specs.declared.Power.{Power}
 use Rattle.limits.specs.declared.Power.the-variants as power
 use Rattle.limits.specs.Limits.{PowerOf, LimitedTo}

@@ -10,8 +10,8 @@ use Rattle.rules.specs.Reference as book
 use Rattle.rules.specs.Settle.{limitReadable, referenceReadable}
 use Rattle.energy.specs.declared.reference.Reference.{Reference}
 use Rattle.energy.specs.declared.reference.Reference.the-variants.{OnCurve, LastMeasured, OnIrradiance, ByFactor, AsPlanned}
-use Rattle.table.specs.declared.Curve.{Curve}
-use Rattle.table.specs.Tables.{Tabulates}
+use Rattle.curve.specs.declared.Curve.{Curve}
+use Rattle.curve.specs.Tables.{Tabulates}
 use Rattle.exact.specs.declared.Numerator.{Numerator}
 use Rattle.exact.specs.declared.Numerator.the-variants as numerator
 use Rattle.exact.specs.declared.Exact.{Exact}

@@ -8,13 +8,13 @@ ghost use Rattle.rules.specs.Archive.{byteAt, recordAt};
 ghost use Rattle.rules.specs.Terms.{Point, quarterOf};
 ghost use Rattle.rules.specs.Reference.{onCurve, onIrradiance, byFactor, asPlanned};
 ghost use Rattle.energy.specs.References.{meaning, Bounded};
-ghost use Rattle.table.specs.Tables.{Tabulates};
+ghost use Rattle.curve.specs.Tables.{Tabulates};
 ghost use Rattle.exact.specs.Exacts.{Curved, Tabled, ReferredTo, quarterAnswer};
+use curve::Curve;
 use energy::reference::Reference;
 use limits::Power;
 use rules::Direction;
 use rules::Execution;
-use table::Curve;
 use units::Irradiance;
 use units::Watt;
 
@@ -48,11 +48,11 @@ fn on_curve(a: Watt, b: Watt, pn: Watt, curve: Curve, table: &[u64], r: &[u8]) -
     requires { ⌜ length (now r) ≡ 32 ⌝ }
     ensures { λ n. ⌜ ((points : List Point) (measure : List ℕ) (index : ℕ) → Tabulates curve (now (table .entry)) points → ReferredTo (onCurve (a .0) (orZero (b .0)) (orZero (pn .0)) points) (quarterOf measure index (now (r .entry))) n) ⌝ }
 {
-    let word = fields::link_at(r, 16);
-    if !weather::is_speed(word) {
+    let word = record::link_at(r, 16);
+    if !units::is_speed(word) {
         return Numerator::OutOfRange;
     }
-    let power = table::power_at(curve, table, weather::speed_of(word));
+    let power = curve::power_at(curve, table, units::speed_of(word));
     Numerator::Of(capped(a.0 * power.0, pn.0 * b.0))
 }
 
@@ -62,11 +62,11 @@ fn on_irradiance(a: Watt, b: Irradiance, r: &[u8]) -> Numerator
     requires { ⌜ length (now r) ≡ 32 ⌝ }
     ensures { λ n. ⌜ ((measure : List ℕ) (index : ℕ) → ReferredTo (onIrradiance (a .0) (b .0)) (quarterOf measure index (now (r .entry))) n) ⌝ }
 {
-    let word = fields::link_at(r, 16);
-    if !weather::is_irradiance(word) {
+    let word = record::link_at(r, 16);
+    if !units::is_irradiance(word) {
         return Numerator::OutOfRange;
     }
-    let g = weather::irradiance_of(word).0;
+    let g = units::irradiance_of(word).0;
     Numerator::Of(a.0 * g as i64)
 }
 

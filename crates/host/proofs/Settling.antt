@@ -17,11 +17,11 @@ use Rattle.rules.specs.Settle.{Settlement, countOf, settled}
 use Rattle.rules.specs.Host.{hostSettle, hostListAfter, hostResultAfter}
 use Rattle.rules.specs.Promises.{HostSettles}
 use Rattle.rules.proofs.Refusals.{every-call-answers}
-use Rattle.measure.specs.declared.Measure.{Measure}
-use Rattle.measure.specs.declared.Prepared.{Prepared}
-use Rattle.measure.specs.declared.Prepared.the-variants as prepared
-use Rattle.measure.specs.Answers.{Stands, Prepares}
-use Rattle.measure.proofs.Laws.{in-sheet, sheet-length, not-ready}
+use Rattle.prepare.specs.declared.Measure.{Measure}
+use Rattle.prepare.specs.declared.Prepared.{Prepared}
+use Rattle.prepare.specs.declared.Prepared.the-variants as prepared
+use Rattle.prepare.specs.Answers.{Stands, Prepares}
+use Rattle.prepare.proofs.Laws.{in-sheet, sheet-length, not-ready}
 use Rattle.host.proofs.Numbers.{number-small}
 
 module _ (archive : List ℕ) (p k : ℕ) (list result : List ℕ) where

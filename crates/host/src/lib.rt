@@ -2,12 +2,24 @@
 ghost use mathlib.Core.Path.{_≡_};
 ghost use Prim.Native.Nat.{_/_, _≤_, min};
 ghost use lib.ListN.{length};
+ghost use mathlib.Core.List.{_++_};
+ghost use Rattle.rules.specs.Encoding.{doubleWord};
 ghost use Rattle.rules.specs.Promises.{HostSettles, Freshens, Appends, Audits};
 ghost use Rattle.host.specs.Shown.{shownPlace};
-use measure::Prepared;
+use prepare::Prepared;
 use rules::refusal;
 
 // ---- settle
+
+// The result part: count, total and links, 8 bytes each.
+fn put_result(result: &mut [u8], count: u64, total: u64, links: u64)
+    requires { ⌜ length (now result) ≡ 24 ⌝ }
+    ensures { λ _. ⌜ now (result .exit) ≡ doubleWord count ++ (doubleWord total ++ doubleWord links) ⌝ }
+{
+    writing::put_place(result, 0, count);
+    writing::put_place(result, 1, total);
+    writing::put_place(result, 2, links);
+}
 
 // Nothing lent is written before every test has passed: 13 last, for the list and for the result part. The sheet has a place for each
 // quarter that the list can take.
@@ -34,11 +46,11 @@ fn settle_on(
         return refusal::NO_ROOM as u32;
     }
     let direction = measure.direction;
-    let total = encoding::book_bytes(direction, measure.denominator, &sheet[..count], list);
-    encoding::put_result(
+    let total = booking::book_bytes(direction, measure.denominator, &sheet[..count], list);
+    put_result(
         result,
         measure.count,
-        encoding::bits_of(direction, total),
+        booking::bits_of(direction, total),
         measure.links,
     );
     0
@@ -77,7 +89,7 @@ pub extern "C" fn sandegmur_append(archive: &mut [u8], owner: u64, new: &[u8]) -
 pub extern "C" fn sandegmur_audit(archive: &[u8]) -> u32
     ensures { λ r. ⌜ Audits (now (archive .entry)) r ⌝ }
 {
-    filing::audit(archive) as u32
+    audit::audit(archive) as u32
 }
 
 // Where record `number` starts in the archive, or the archive's length where show gives the empty part.

@@ -22,7 +22,7 @@ pub fn power_of(r: &[u8], at: usize) -> Power
     requires { ⌜ at + 4 ≤ length (now r) ⌝ }
     ensures { λ p. ⌜ PowerOf (fieldAt (now (r .entry)) at) p ⌝ }
 {
-    let power = fields::watt_at(r, at);
+    let power = record::watt_at(r, at);
     if !units::in_power_range(power) {
         return Power::OutOfRange;
     }

@@ -29,7 +29,7 @@ fn plant_at(archive: &[u8], used: u64, p: u64) -> Reach
     requires { ⌜ (1 ≤ used) × (32 * used ≤ length (now archive)) ⌝ }
     ensures { λ r. ⌜ r ≡ reachAnswer p (plantAt (now (archive .entry)) used p) ⌝ }
 {
-    let first = fields::link_of(archive, 0, 8);
+    let first = record::link_of(archive, 0, 8);
     chains::walk_to(archive, used, kind::PLANT, 0, first, p, refusal::NO_PLANT)
 }
 
@@ -38,7 +38,7 @@ fn measure_at(archive: &[u8], used: u64, plant: u64, k: u64) -> Reach
     requires { ⌜ (32 * used ≤ length (now archive)) × (plant < used) ⌝ }
     ensures { λ r. ⌜ r ≡ reachAnswer k (measureAt (now (archive .entry)) used (entryAt (now (archive .entry)) plant) k) ⌝ }
 {
-    let first = fields::link_of(archive, plant, 12);
+    let first = record::link_of(archive, plant, 12);
     chains::walk_to(
         archive,
         used,
@@ -67,8 +67,8 @@ fn admit(archive: &[u8], place: Place) -> Placed
 {
     let i = place.plant as usize;
     let j = place.measure as usize;
-    let plant_allowed = plants::plant_allowed(&archive[32 * i..32 * i + 32]);
-    let measure_allowed = measures::measure_allowed(
+    let plant_allowed = terms::plant_allowed(&archive[32 * i..32 * i + 32]);
+    let measure_allowed = terms::measure_allowed(
         &archive[32 * i..32 * i + 32],
         &archive[32 * j..32 * j + 32],
     );

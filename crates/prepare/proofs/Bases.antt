@@ -19,8 +19,8 @@ use Rattle.rules.specs.Settle.{Place, Basis, placeOf, pointsOf, windBasis, firs
 use Rattle.rules.proofs.Inversion.{Holds, holds-bind, holds-refused, holds-require, holds-given}
 use Rattle.rules.proofs.Chains.{chain-few}
 use Rattle.units.specs.declared.Watt.{Watt}
-use Rattle.table.specs.declared.Curve.{Curve}
-use Rattle.table.specs.Tables.{Tabulates}
+use Rattle.curve.specs.declared.Curve.{Curve}
+use Rattle.curve.specs.Tables.{Tabulates}
 use Rattle.energy.specs.declared.reference.Reference.{Reference}
 use Rattle.energy.specs.declared.reference.Reference.the-variants.{OnCurve, LastMeasured, OnIrradiance, ByFactor, AsPlanned}
 use Rattle.energy.specs.References.{meaning, UpTo, Bounded}
@@ -29,9 +29,9 @@ use Rattle.basis.specs.declared.Based.the-variants as based
 use Rattle.basis.specs.Based.{held, basedAnswer, windOf, solarOf}
 use Rattle.basis.proofs.Laws.{based-on, HeldAs, befores-few, basis-held}
 use Rattle.exact.specs.Exacts.{Curved}
-use Rattle.measure.specs.declared.Prepared.{Prepared}
-use Rattle.measure.specs.declared.Prepared.the-variants as prepared
-use Rattle.measure.specs.Answers.{Prepares, settledOn}
+use Rattle.prepare.specs.declared.Prepared.{Prepared}
+use Rattle.prepare.specs.declared.Prepared.the-variants as prepared
+use Rattle.prepare.specs.Answers.{Prepares, settledOn}
 use Rattle.prepare.specs.OffCurve.{OffCurve, BasedOffCurve, HeldWell}
 
 -- ---- how many links

@@ -5,7 +5,7 @@ use mathlib.Core.List.{List, []}
 use Rattle.rules.specs.Outcome.{Outcome, given}
 use Rattle.rules.specs.Settle.{Basis}
 use Rattle.rules.specs.Terms.{Point}
-use Rattle.table.specs.declared.Curve.{Curve}
+use Rattle.curve.specs.declared.Curve.{Curve}
 use Rattle.energy.specs.declared.reference.Reference.{Reference}
 use Rattle.energy.specs.References.{meaning, Bounded}
 use Rattle.exact.specs.Exacts.{Curved}

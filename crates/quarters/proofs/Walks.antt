@@ -31,7 +31,7 @@ use Rattle.rules.proofs.Folds.{gathered, gatheredFrom, gather-turn, gather-refu
 use Rattle.chains.proofs.Laws.{Met, chain-met}
 use Rattle.place.specs.declared.Place.{Place}
 use Rattle.place.specs.Places.{meant}
-use Rattle.table.specs.declared.Curve.{Curve}
+use Rattle.curve.specs.declared.Curve.{Curve}
 use Rattle.energy.specs.declared.reference.Reference.{Reference}
 use Rattle.energy.specs.References.{meaning, Bounded}
 use Rattle.exact.specs.declared.Exact.{Exact}

@@ -11,7 +11,7 @@ use Rattle.rules.specs.Settle as settle
 use Rattle.rules.specs.Settle.{Basis, quartersOf, exactsOf, measureDenominator}
 use Rattle.place.specs.declared.Place.{Place}
 use Rattle.place.specs.Places.{meant}
-use Rattle.table.specs.declared.Curve.{Curve}
+use Rattle.curve.specs.declared.Curve.{Curve}
 use Rattle.energy.specs.declared.reference.Reference.{Reference}
 use Rattle.energy.specs.References.{meaning}
 use Rattle.exact.specs.declared.Exact.{Exact}

@@ -8,12 +8,12 @@ ghost use Rattle.energy.specs.References.{Bounded};
 ghost use Rattle.exact.specs.Exacts.{Tabled};
 ghost use Rattle.quarters.specs.Walks.{isInRange, entered, Walks};
 use chains::Link;
+use curve::Curve;
 use energy::reference::Reference;
 use exact::Exact;
 use place::Place;
 use rules::kind;
 use rules::refusal;
-use table::Curve;
 
 // A magnitude goes to its place of the sheet, if the sheet has that place; the answer is whether it is in range.
 fn enter(sheet: &mut [u64], count: usize, magnitude: Exact) -> bool
@@ -60,10 +60,10 @@ pub fn walk(
     let used = place.used;
     let measure = place.measure;
     let m = measure as usize;
-    let direction = measures::direction_of(&archive[32 * m..32 * m + 32]);
-    let execution = measures::execution_of(&archive[32 * m..32 * m + 32]);
+    let direction = terms::direction_of(&archive[32 * m..32 * m + 32]);
+    let execution = terms::execution_of(&archive[32 * m..32 * m + 32]);
     let mut last = measure;
-    let mut link = fields::link_of(archive, measure, 12);
+    let mut link = record::link_of(archive, measure, 12);
     let mut count: usize = 0;
     let mut fine = true;
     while link != 0 {
@@ -75,7 +75,7 @@ pub fn walk(
         fine = enter(sheet, count, magnitude) & fine;
         count += 1;
         last = n;
-        link = fields::link_of(archive, n, 4);
+        link = record::link_of(archive, n, 4);
     }
     let counted = in_count_range(count);
     if !counted {

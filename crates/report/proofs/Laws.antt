@@ -19,8 +19,8 @@ use Rattle.rules.specs.Output.{Line, measureLine, quarterLine, refusalLine, lin
 use Rattle.rules.proofs.Output.{Within, step-within, lines-are, lines-given, text-append, text-cons, text-one, map-from-drop, output-given}
 use Rattle.rules.proofs.Writes.{wrote-none}
 use Rattle.rules.proofs.AppendSteps.{used-within}
-use Rattle.decimal.specs.Writes.{Writes}
-use Rattle.decimal.proofs.Laws.{written-front}
+use Rattle.text.specs.Writes.{Writes}
+use Rattle.text.proofs.Decimals.{written-front}
 use Rattle.report.specs.declared.Cursor.{Cursor}
 use Rattle.report.specs.Cursors.{rest, finished, bytesLeft, startAt, settledAt, quarterAt, moved, firstAt, endedAt, steps, Fits, Begins, Advances, Continues, Fills}
 use Rattle.report.proofs.Counts.{settled-counted}

@@ -5,7 +5,7 @@ ghost use Prim.Native.Nat.{ℕ, _+_, _≤_, _<_};
 ghost use lib.ListN.{length};
 ghost use Rattle.rules.specs.Outcome.{refused};
 ghost use Rattle.rules.specs.Output.{linesOf, stepAfter, headRefused, textOfAll};
-ghost use Rattle.decimal.specs.Writes.{Writes};
+ghost use Rattle.text.specs.Writes.{Writes};
 ghost use Rattle.report.specs.Cursors.{finished, startAt, settledAt, moved, firstAt, endedAt, Fits, Begins, Advances};
 use archive::Head;
 use rules::refusal;

@@ -14,11 +14,11 @@ use Rattle.rules.specs.Settle.{Answer, answerOf, Settlement, countOf, settled, 
 use Rattle.rules.specs.Promises.{Settles}
 use Rattle.rules.proofs.Demand.{settle-keeps}
 use Rattle.units.specs.declared.WattHour.{WattHour}
-use Rattle.measure.specs.declared.Measure.{Measure}
-use Rattle.measure.specs.declared.Prepared.{Prepared}
-use Rattle.measure.specs.declared.Prepared.the-variants as prepared
-use Rattle.measure.specs.Answers.{Stands, Prepares}
-use Rattle.measure.proofs.Laws.{in-sheet, sheet-length, not-ready}
+use Rattle.prepare.specs.declared.Measure.{Measure}
+use Rattle.prepare.specs.declared.Prepared.{Prepared}
+use Rattle.prepare.specs.declared.Prepared.the-variants as prepared
+use Rattle.prepare.specs.Answers.{Stands, Prepares}
+use Rattle.prepare.proofs.Laws.{in-sheet, sheet-length, not-ready}
 use Rattle.settle.specs.declared.Settled.the-variants as answer
 use Rattle.settle.specs.Answers.{answered, preparedNumber}
 

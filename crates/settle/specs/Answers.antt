@@ -2,8 +2,8 @@
 use Prim.Native.Nat.{ℕ}
 use lib.IntN.{pos}
 use Rattle.rules.specs.Settle.{Answer}
-use Rattle.measure.specs.declared.Prepared.{Prepared}
-use Rattle.measure.specs.declared.Prepared.the-variants as prepared
+use Rattle.prepare.specs.declared.Prepared.{Prepared}
+use Rattle.prepare.specs.declared.Prepared.the-variants as prepared
 use Rattle.settle.specs.declared.Settled.{Settled}
 use Rattle.settle.specs.declared.Settled.the-variants as answer
 

@@ -4,7 +4,7 @@ ghost use Prim.Native.Nat.{_≤_, min};
 ghost use lib.ListN.{length};
 ghost use Rattle.rules.specs.Promises.{Settles};
 ghost use Rattle.settle.specs.Answers.{answered, preparedNumber};
-use measure::Prepared;
+use prepare::Prepared;
 use rules::refusal;
 use units::WattHour;
 

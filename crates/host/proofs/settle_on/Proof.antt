@@ -1,4 +1,4 @@
-use Rattle.measure.proofs.Laws.{ready, in-sheet, sheet-length}
+use Rattle.prepare.proofs.Laws.{ready, in-sheet, sheet-length}
 use Rattle.rules.specs.Settle.{settled}
 -- `host::settle_on` meets its contract.
 use mathlib.Core.Path.{sym}
@@ -6,15 +6,15 @@ use Prim.Native.Nat.{_/_, _≤_, min}
 use native.Mathlib.Omega.{arith}
 use lib.ListN.{length}
 use borrow.Author.Needs.{needs}
-use Rattle.measure.specs.Answers.{Stands}
+use Rattle.prepare.specs.Answers.{Stands}
 use Rattle.host.proofs.Settling.{refusal-small, unready, list-short, result-wrong, list-long, all-written}
 use Rattle.host.proofs.settle_on.Statement.{statement}
 use Rattle.host.proofs.settle_on.Tie as tie
 use Rattle.host.proofs.settle_on.Reads as reads
 use Rattle.host.proofs.settle_on.Lts as lts
-use Rattle.encoding.proofs.bits_of.Reads as bits-of-reads
-use Rattle.encoding.proofs.book_bytes.Reads as book-bytes-reads
-use Rattle.encoding.proofs.put_result.Reads as put-result-reads
+use Rattle.booking.proofs.bits_of.Reads as bits-of-reads
+use Rattle.booking.proofs.book_bytes.Reads as book-bytes-reads
+use Rattle.host.proofs.put_result.Reads as put-result-reads
 use Rattle.prepare.proofs.prepare.Reads as prepare-reads
 
 abbrev claims : lts.Claims

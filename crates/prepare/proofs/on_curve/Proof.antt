@@ -1,5 +1,5 @@
 use Rattle.prepare.proofs.Bases.{points-few, not-based, no-points, on-points, on-curve, by-basis}
-use Rattle.curve.proofs.Walks.{answer-given, answer-refused}
+use Rattle.points.proofs.Walks.{answer-given, answer-refused}
 use Rattle.basis.proofs.Laws.{based-none}
 use Rattle.place.specs.Places.{meant}
 use Rattle.rules.specs.Settle.{pointsOf}

@@ -3,7 +3,7 @@ use native.Mathlib.Omega.{arith}
 use borrow.Author.Needs.{sfits-of, needs}
 use lib.IntN.{ℤ}
 use Rattle.rules.specs.Output.{textOf, measureLine}
-use Rattle.decimal.proofs.Laws.{writes-held}
+use Rattle.text.proofs.Decimals.{writes-held}
 use Rattle.report.proofs.Laws.{given-advances, refused-advances}
 use Rattle.sandegmur.proofs.Steps.{was-given, was-refused, advances-kept}
 use Rattle.sandegmur.proofs.put_next_measure.Statement.{statement}

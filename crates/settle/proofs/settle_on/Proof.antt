@@ -1,6 +1,6 @@
 use Prim.Native.Nat.{_≤_, min}
 use lib.ListN.{length}
-use Rattle.measure.proofs.Laws.{ready, in-sheet, sheet-length}
+use Rattle.prepare.proofs.Laws.{ready, in-sheet, sheet-length}
 use Rattle.settle.proofs.Laws.{list-long, settles-unready, settles-short, settles-given}
 use native.Mathlib.Omega.{arith}
 use mathlib.Core.Path.{refl, sym}

@@ -1,6 +1,6 @@
 -- `text::put_refusal` meets its contract.
 use native.Mathlib.Omega.{arith}
-use Rattle.decimal.proofs.Laws.{writes-on}
+use Rattle.text.proofs.Decimals.{writes-on}
 use borrow.Author.Needs.{needs}
 use Rattle.text.proofs.put_refusal.Statement.{statement}
 use Rattle.text.proofs.put_refusal.Tie as tie

@@ -1,0 +1,59 @@
+-- `audit::check_link` meets its contract.
+use native.Mathlib.Omega.{arith}
+use borrow.Author.Needs.{needs}
+use Rattle.chains.proofs.Laws.{no-at}
+use Rattle.audit.proofs.Marks.{led, link-answered, link-marked}
+use Rattle.audit.proofs.check_link.Statement.{statement}
+use Rattle.audit.proofs.check_link.Tie as tie
+
+link-of-requires : tie.Need-link-of-requires
+link-of-requires c κs = search needs
+
+follow-requires : tie.Need-follow-requires
+follow-requires c κs = search needs
+
+enum-known-answer : tie.Need-enum-known-answer
+enum-known-answer c = search needs
+
+refusal-of-requires : tie.Need-refusal-of-requires
+refusal-of-requires c κs = search needs
+
+returns : tie.Need-returns
+returns c =
+    let a = c .before .before .before .before .before .before .args in
+    let l = c .before .before .before .link-of in
+    let f = c .before .before .follow in
+    link-answered (a .archive .now) (a .used) (a .n) (a .at) (a .to) (omega arith) (l .result) (l .ensures .0) (f .result) (f .ensures) (a .marks .now) _
+    (c .refusal-of .ensures) (no-at (f .result) (c .before .match .keys2))
+
+mark-requires : tie.Need-mark-requires
+mark-requires c κs =
+    let a = c .before .before .before .before .before .before .before .before .args in
+    let l = c .before .before .before .before .before .link-of in
+    let f = c .before .before .before .before .follow in
+    let to = led (a .archive .now) (a .used) (a .n) (a .at) (a .to) (omega arith) (l .result) (l .ensures .0) (f .result) (f .ensures) _ (c .before .before .answer .given .1) in
+    omega arith
+
+same-length : tie.Need-same-length
+same-length c = search needs
+
+returns-2 : tie.Need-returns-2
+returns-2 c =
+    let a = c .before .before .before .before .before .before .before .before .before .before .before .args in
+    let l = c .before .before .before .before .before .before .before .before .link-of in
+    let f = c .before .before .before .before .before .before .before .follow in
+    link-marked (a .archive .now) (a .used) (a .n) (a .at) (a .to) (omega arith) (l .result) (l .ensures .0) (f .result) (f .ensures) (a .marks .now) _ _
+    (c .before .before .before .before .before .answer .given .1) (c .before .before .mark .ensures)
+
+pub check-link-spec : {M : Type 1} → statement M
+check-link-spec =
+    tie.close
+    (tie.spec
+    link-of-requires
+    follow-requires
+    enum-known-answer
+    refusal-of-requires
+    returns
+    mark-requires
+    same-length
+    returns-2)

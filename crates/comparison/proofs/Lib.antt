@@ -1,0 +1,4 @@
+pub mod Steps
+pub mod Walks
+pub mod Taken
+pub mod Purposes

@@ -1,0 +1,56 @@
+-- `comparison::add_marked` meets its contract.
+use borrow.Author.Needs.{needs}
+use Rattle.comparison.proofs.Purposes.{ready-four, adds-four, adds-first, adds-all}
+use Rattle.comparison.proofs.add_marked.Statement.{statement}
+use Rattle.comparison.proofs.add_marked.Tie as tie
+
+enum-known-purpose : tie.Need-enum-known-purpose
+enum-known-purpose c = search needs
+
+add-four-requires : tie.Need-add-four-requires
+add-four-requires c κs =
+    let p = c .before .before .before .before .before in
+    let e = c .before .purpose .given in
+    (ready-four (p .args .purpose) (p .args .curve) (p .args .table .now) (e .0 .0) (e .1) (p .pre .0), (p .pre .1 .0, p .pre .1 .1 .1))
+
+enum-told : tie.Need-enum-told
+enum-told c = search needs
+
+add-first-requires : tie.Need-add-first-requires
+add-first-requires c κs = search needs
+
+enum-told-2 : tie.Need-enum-told-2
+enum-told-2 c = search needs
+
+add-all-requires : tie.Need-add-all-requires
+add-all-requires c κs = search needs
+
+returns : tie.Need-returns
+returns c =
+    let a = c .before .before .before .before .before .before .args in
+    let e = c .before .before .purpose .given in
+    (adds-four (a .purpose) (a .curve) (a .table .now) (a .sums) (a .r .now) _ (e .0 .0) (e .1) (c .add-four .ensures .0), c .add-four .ensures .1)
+
+returns-2 : tie.Need-returns-2
+returns-2 c =
+    let a = c .before .before .before .before .before .args in
+    (adds-first (a .purpose) (a .curve) (a .table .now) (a .sums) (a .r .now) _ (c .before .enum-told .given .1) (c .add-first .ensures .0), c .add-first .ensures .1)
+
+returns-3 : tie.Need-returns-3
+returns-3 c =
+    let a = c .before .before .before .before .before .args in
+    (adds-all (a .purpose) (a .curve) (a .table .now) (a .sums) (a .r .now) _ (c .before .enum-told2 .given .1) (c .add-all .ensures .0), c .add-all .ensures .1)
+
+pub add-marked-spec : {M : Type 1} → statement M
+add-marked-spec =
+    tie.close
+    (tie.spec
+    enum-known-purpose
+    add-four-requires
+    enum-told
+    add-first-requires
+    enum-told-2
+    add-all-requires
+    returns
+    returns-2
+    returns-3)

@@ -1,0 +1,246 @@
+// The sums A and B over a measure's before-quarters, one before-quarter at a time (document 01, 'Reference power T').
+ghost use mathlib.Core.Path.{_≡_};
+ghost use mathlib.Core.List.{List};
+ghost use Prim.Native.Nat.{_^_, _≤_, _<_, _+_};
+ghost use lib.ListN.{length};
+ghost use Rattle.rules.specs.Archive.{linkAt, fieldAt};
+ghost use Rattle.rules.specs.Terms.{Point, beforeOf};
+ghost use Rattle.curve.specs.Tables.{Tabulates};
+ghost use Rattle.comparison.specs.Sums.{Ready, Curved, plus as plusOf, taken, addedAnswer, Room, RoomAdded};
+ghost use Rattle.place.specs.Places.{meant, Lies};
+ghost use Rattle.comparison.specs.Walks.{stepped, RoomIn, passed as passedOf, gatheredOf, gatheredAnswer, RoomGathered};
+use chains::Link;
+use curve::Curve;
+use place::Place;
+use rules::kind;
+use rules::refusal;
+use units::Watt;
+
+// Wind Spitz: the first four marked ones whose measured power is 10 % of Pn or more. Wind and other Pauschal: the first marked one.
+// Solar Spitz: all marked ones.
+pub enum Purpose {
+    Four(u64),
+    First,
+    All,
+}
+
+// ---- fields
+
+fn measured_of(r: &[u8]) -> Watt
+    requires { ⌜ length (now r) ≡ 32 ⌝ }
+    ensures { λ w. ⌜ w .0 ≡ fieldAt (now (r .entry)) 8 ⌝ }
+{
+    record::watt_at(r, 8)
+}
+
+// The word of a speed or an irradiance.
+fn weather_of(r: &[u8]) -> u64
+    requires { ⌜ length (now r) ≡ 32 ⌝ }
+    ensures { λ n. ⌜ (n ≡ linkAt (now (r .entry)) 16) × (n < 2 ^ 32) ⌝ }
+{
+    record::link_at(r, 16)
+}
+
+// ---- sums
+
+// The before-quarters used, and A and B over them; the powers in A are raised by 1,000,000,000 each, but not for wind Spitz.
+pub struct Sums {
+    pub used: u64,
+    pub a: u64,
+    pub b: u64,
+}
+
+// One more used.
+fn plus(sums: Sums, a: u64, b: u64) -> Sums
+    requires { ⌜ Room sums ⌝ }
+    requires { ⌜ (sums .used < 96) × (a ≤ 2000000000) × (b ≤ 1000000000) ⌝ }
+    ensures { λ r. ⌜ r ≡ plusOf sums a b ⌝ }
+{
+    Sums {
+        used: sums.used + 1,
+        a: sums.a + a,
+        b: sums.b + b,
+    }
+}
+
+pub enum Added {
+    To(Sums),
+    OutOfRange,
+}
+
+// A marked before-quarter, from its own 32 bytes, for wind Spitz. 10 × measured ≥ Pn is tested on the raised power.
+fn add_four(pn: u64, curve: Curve, table: &[u64], sums: Sums, r: &[u8]) -> Added
+    requires { ⌜ Ready (Purpose.Four pn) (now table) ⌝ }
+    requires { ⌜ Room sums ⌝ }
+    requires { ⌜ length (now r) ≡ 32 ⌝ }
+    ensures { λ t. ⌜ ((points : List Point) → Tabulates curve (now (table .entry)) points → t ≡ addedAnswer (taken (Purpose.Four pn) points sums (beforeOf (now (r .entry)))))
+        × RoomAdded sums t ⌝ }
+{
+    if 4 <= sums.used {
+        return Added::To(sums);
+    }
+    let measured = measured_of(r);
+    if !units::in_power_range(measured) {
+        return Added::OutOfRange;
+    }
+    let power = units::raised(measured);
+    if 10 * power < pn + 10000000000 {
+        return Added::To(sums);
+    }
+    let word = weather_of(r);
+    if !units::is_speed(word) {
+        return Added::OutOfRange;
+    }
+    let on_curve = curve::power_at(curve, table, units::speed_of(word));
+    Added::To(plus(sums, power - 1000000000, units::unsigned(on_curve)))
+}
+
+// The same for Pauschal; no 10 % test.
+fn add_first(sums: Sums, r: &[u8]) -> Added
+    requires { ⌜ Room sums ⌝ }
+    requires { ⌜ length (now r) ≡ 32 ⌝ }
+    ensures { λ t. ⌜ ((points : List Point) → t ≡ addedAnswer (taken Purpose.First points sums (beforeOf (now (r .entry))))) × RoomAdded sums t ⌝ }
+{
+    if sums.used != 0 {
+        return Added::To(sums);
+    }
+    let measured = measured_of(r);
+    if !units::in_power_range(measured) {
+        return Added::OutOfRange;
+    }
+    Added::To(Sums {
+        used: 1,
+        a: units::raised(measured),
+        b: 0,
+    })
+}
+
+// The same for solar Spitz.
+fn add_all(sums: Sums, r: &[u8]) -> Added
+    requires { ⌜ Room sums ⌝ }
+    requires { ⌜ (sums .used < 96) × (length (now r) ≡ 32) ⌝ }
+    ensures { λ t. ⌜ ((points : List Point) → t ≡ addedAnswer (taken Purpose.All points sums (beforeOf (now (r .entry))))) × RoomAdded sums t ⌝ }
+{
+    let measured = measured_of(r);
+    if !units::in_power_range(measured) {
+        return Added::OutOfRange;
+    }
+    let word = weather_of(r);
+    if !units::is_irradiance(word) {
+        return Added::OutOfRange;
+    }
+    Added::To(plus(sums, units::raised(measured), units::irradiance_of(word).0))
+}
+
+pub fn add_marked(purpose: Purpose, curve: Curve, table: &[u64], sums: Sums, r: &[u8]) -> Added
+    requires { ⌜ Ready purpose (now table) ⌝ }
+    requires { ⌜ Room sums ⌝ }
+    requires { ⌜ (sums .used < 96) × (length (now r) ≡ 32) ⌝ }
+    ensures { λ t. ⌜ ((points : List Point) → Curved purpose curve (now (table .entry)) points → t ≡ addedAnswer (taken purpose points sums (beforeOf (now (r .entry)))))
+        × RoomAdded sums t ⌝ }
+{
+    match purpose {
+        Purpose::Four(pn) => add_four(pn, curve, table, sums, r),
+        Purpose::First => add_first(sums, r),
+        Purpose::All => add_all(sums, r),
+    }
+}
+
+// The one walk along a measure's chain of before-quarters, for the sums over them (document 01, 'Reference power T').
+
+// The before-quarters met, whether every field read so far is in range, and the sums.
+pub struct Walk {
+    pub count: u64,
+    pub fine: bool,
+    pub sums: Sums,
+}
+
+// One more before-quarter, from its own 32 bytes. Once a field is out of range, or above 96, no more is added: 9 or 8 is the answer then.
+fn step(purpose: Purpose, curve: Curve, table: &[u64], walk: Walk, r: &[u8]) -> Walk
+    requires { ⌜ Ready purpose (now table) ⌝ }
+    requires { ⌜ RoomIn walk ⌝ }
+    requires { ⌜ (walk .count < 65536) × (length (now r) ≡ 32) ⌝ }
+    ensures { λ w. ⌜ ((points : List Point) → Curved purpose curve (now (table .entry)) points → w ≡ stepped purpose points walk (now (r .entry)))
+        × RoomIn w × (w .count ≡ walk .count + 1) ⌝ }
+{
+    let mut next = walk;
+    next.count = walk.count + 1;
+    if !walk.fine {
+        return next;
+    }
+    let mark = r[1];
+    if 1 < mark {
+        next.fine = false;
+        return next;
+    }
+    if mark != 1 {
+        return next;
+    }
+    if 96 <= walk.count {
+        return next;
+    }
+    let Added::To(sums) = add_marked(purpose, curve, table, walk.sums, r) else {
+        next.fine = false;
+        return next;
+    };
+    next.sums = sums;
+    next
+}
+
+pub enum Gathered {
+    Of(Walk),
+    Refused(u64),
+}
+
+// After the walk: 8, then 9.
+fn passed(walk: Walk) -> Gathered
+    requires { ⌜ RoomIn walk ⌝ }
+    ensures { λ r. ⌜ (r ≡ gatheredAnswer (passedOf walk)) × RoomGathered r ⌝ }
+{
+    if 96 < walk.count {
+        return Gathered::Refused(refusal::BAD_COUNT);
+    }
+    if !walk.fine {
+        return Gathered::Refused(refusal::OUT_OF_RANGE);
+    }
+    Gathered::Of(walk)
+}
+
+// The chain of before-quarters is walked whole (2, 3), then 8, then 9.
+pub fn gather(
+    archive: &[u8],
+    place: Place,
+    purpose: Purpose,
+    curve: Curve,
+    table: &[u64],
+) -> Gathered
+    requires { ⌜ Lies (now archive) place ⌝ }
+    requires { ⌜ Ready purpose (now table) ⌝ }
+    ensures { λ r. ⌜ ((points : List Point) → Curved purpose curve (now (table .entry)) points
+        → r ≡ gatheredAnswer (gatheredOf purpose points (now (archive .entry)) (meant (now (archive .entry)) place)))
+        × RoomGathered r ⌝ }
+{
+    let used = place.used;
+    let mut last = place.measure;
+    let mut link = record::link_of(archive, last, 8);
+    let mut walk = Walk {
+        count: 0,
+        fine: true,
+        sums: Sums {
+            used: 0,
+            a: 0,
+            b: 0,
+        },
+    };
+    while link != 0 {
+        let answer = chains::follow(archive, used, kind::BEFORE, last, link);
+        let Link::At(n) = answer else {
+            return Gathered::Refused(chains::refusal_of(answer, 0));
+        };
+        let i = n as usize;
+        walk = step(purpose, curve, table, walk, &archive[32 * i..32 * i + 32]);
+        last = n;
+        link = record::link_of(archive, n, 4);
+    }
+    passed(walk)
+}

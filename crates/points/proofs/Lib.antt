@@ -1,0 +1,4 @@
+pub mod Steps
+pub mod Points
+pub mod Curves
+pub mod Walks
