@@ -2,6 +2,7 @@
 use mathlib.Core.Path.{_≡_}
 use mathlib.Core.List.{List, [], _∷_}
 use Prim.Native.Nat.{ℕ}
+use native.Mathlib.Omega.{arith}
 use Rattle.rules.specs.Outcome.{Outcome, refused, given, _>>=_}
 use Rattle.rules.specs.Archive.{Entry}
 
@@ -26,3 +27,8 @@ module _ {S : Type 0} (step : S → Entry → S) where
 
   pub gather-done : (s : S) (o : Outcome (List Entry)) → o ≡ given [] → gatheredFrom s o ≡ given s
   gather-done s o f = rw f
+
+  -- a refusal on the way is the chain's
+  pub gathered-refused : (s : S) (o : Outcome (List Entry)) (n : ℕ) → gatheredFrom s o ≡ refused n → o ≡ refused n
+  gathered-refused s (refused k) n e = cc
+  gathered-refused s (given es) n e = let z : _≡_ {A = ℕ} 0 1 = cc in absurd (omega arith)
