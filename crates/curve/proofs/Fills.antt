@@ -15,7 +15,8 @@ use Rattle.rules.specs.Terms.{Point}
 use Rattle.rules.specs.Reference.{lineAt}
 use Rattle.curve.specs.Tables.{Low}
 use Rattle.curve.specs.Lines.{filled}
-use Rattle.curve.proofs.Line.{Piece, line-low}
+use Rattle.rules.proofs.Curve.{line-low}
+use Rattle.curve.proofs.Line.{Piece}
 
 module _ (a b : Point) where
   pub filled-turn : (end speed power : ℕ) (table : List ℕ) → speed < end → power ≡ lineAt a b speed
@@ -103,6 +104,6 @@ module _ (a b : Point) (table : List ℕ) (p : Piece a b) (size : length table �
           omega (
             arith,
             filled-within a b (b .speed - a .speed) (a .speed) v table h (omega arith) (omega (arith, p .right .low-speed)),
-            line-low a b v h k 1000000000 (p .left .low-power) (p .right .low-power),
+            line-low a b v 1000000000 h k (p .left .low-power) (p .right .low-power),
           )
       line v (inr h) (inr k) = omega (arith, filled-outside a b (b .speed - a .speed) (a .speed) v table (inr (omega (arith, p .rises))), low v)

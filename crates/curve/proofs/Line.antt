@@ -31,20 +31,6 @@ module _ (a b : Point) where
       record { value = rw z (omega arith); part = omega arith }
 
   module _ (v : ℕ) (from : a .speed ≤ v) (until : v < b .speed) where
-    -- no value is above both powers
-    pub line-low : (top : ℕ) → a .power ≤ top → b .power ≤ top → lineAt a b v ≤ top
-    line-low top ha hb = div-le-of-le-mul (b .speed - a .speed) (omega (
-      arith,
-      mul-le-mul-right (b .speed - v) ha,
-      mul-le-mul-right (v - a .speed) hb,
-      mul-add top (b .speed - v) (v - a .speed),
-      ap (λ (w : ℕ). top * w) whole,
-      mul-comm top (b .speed - a .speed),
-    ))
-      where
-        whole : b .speed - v + (v - a .speed) ≡ b .speed - a .speed
-        whole = omega arith
-
     line-on : lineSum (v + 1) + a .power ≡ lineSum v + b .power
     line-on = omega (
       arith,

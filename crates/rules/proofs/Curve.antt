@@ -1,15 +1,16 @@
 -- The power curve below its first point, at a point, between two points and above the last (01, 'Curve'), and the reference power on it.
 use mathlib.Core.Path.{_≡_, refl, _∙_, ap}
+use mathlib.Core.Bool.{Bool, true, false, cond}
 use mathlib.Core.List.{List, [], _∷_, _++_}
 use Prim.Native.Nat.{ℕ, _+_, _*_, _-_, _/_, _≤_, _<_, min}
-use native.Mathlib.Nat.{mul-div-cancel, le-refl, le-of-lt}
+use native.Mathlib.Nat.{mul-div-cancel, le-refl, le-of-lt, mul-add, mul-comm, mul-le-mul-right, div-le-of-le-mul}
 use native.Mathlib.Omega.{arith}
-use borrow.Author.Tests.{lt-ltb, le-ltb}
+use borrow.Author.Tests.{lt-ltb, le-ltb, ltb-true, ltb-false}
 use lib.Dec.{T, ltb, ltb→lt}
 use lib.IntN.{pos}
 use Rattle.rules.specs.Numbers.{orZero}
 use Rattle.rules.specs.Terms.{Point, Quarter}
-use Rattle.rules.specs.Reference.{readCurve, below, on, above, lineAt, curvePower, onCurve, numerator}
+use Rattle.rules.specs.Reference.{readCurve, below, on, above, lineAt, powerOf, curvePower, onCurve, numerator}
 use Rattle.rules.specs.Settle.{rising}
 use Rattle.rules.proofs.Ints.{natural-smaller}
 use Rattle.rules.proofs.Inversion.{both-left, both-right, All, none, more}
@@ -88,3 +89,39 @@ pub on-curve-natural : (a b pn : ℕ) (points : List Point) (q : Quarter)
     → numerator (onCurve (pos a) b pn points) q ≡ pos (min (a * curvePower points (orZero (q .weather))) (pn * b))
 unfolding numerator
 on-curve-natural a b pn points q = natural-smaller (a * curvePower points (orZero (q .weather))) (pn * b)
+
+-- ---- no power on a curve is above the highest of its points
+
+pub line-low : (a b : Point) (v top : ℕ) → a .speed ≤ v → v < b .speed → a .power ≤ top → b .power ≤ top → lineAt a b v ≤ top
+line-low a b v top from until ha hb = div-le-of-le-mul (b .speed - a .speed) (omega (
+  arith,
+  mul-le-mul-right (b .speed - v) ha,
+  mul-le-mul-right (v - a .speed) hb,
+  mul-add top (b .speed - v) (v - a .speed),
+  ap (λ (w : ℕ). top * w) whole,
+  mul-comm top (b .speed - a .speed),
+))
+  where
+    whole : b .speed - v + (v - a .speed) ≡ b .speed - a .speed
+    whole = omega arith
+
+reading-low : (top : ℕ) (points : List Point) (v : ℕ) → All (λ x. x .power ≤ top) points → powerOf (readCurve points v) ≤ top
+unfolding readCurve
+reading-low top [] v none = omega arith
+reading-low top (a ∷ []) v (more h none) = go (ltb v (a .speed)) (ltb (a .speed) v)
+  where
+    go : (t u : Bool) → powerOf (cond t below (cond u above (on (a .power)))) ≤ top
+    go true u = omega arith
+    go false true = omega arith
+    go false false = h
+reading-low top (a ∷ b ∷ rest) v (more h (more k ks)) = go (ltb v (a .speed)) refl (ltb v (b .speed)) refl (reading-low top (b ∷ rest) v (more k ks))
+  where
+    go : (t : Bool) → ltb v (a .speed) ≡ t → (u : Bool) → ltb v (b .speed) ≡ u → powerOf (readCurve (b ∷ rest) v) ≤ top
+        → powerOf (cond t below (cond u (on (lineAt a b v)) (readCurve (b ∷ rest) v))) ≤ top
+    go true e u f r = omega arith
+    go false e true f r = line-low a b v top (ltb-false v (a .speed) e) (ltb-true v (b .speed) f) h k
+    go false e false f r = r
+
+pub curve-low : (top : ℕ) (points : List Point) (v : ℕ) → All (λ x. x .power ≤ top) points → curvePower points v ≤ top
+unfolding curvePower
+curve-low top points v h = reading-low top points v h

@@ -10,7 +10,7 @@ use lib.Seq.{take-append-le, drop-append-le}
 use Rattle.rules.specs.Outcome.{given, _>>=_}
 use Rattle.rules.specs.Refusals.{settleRefusals}
 use Rattle.rules.specs.Numbers.{sumℤ}
-use Rattle.rules.specs.Terms.{Direction, directionOf}
+use Rattle.rules.specs.Terms.{Direction}
 use Rattle.rules.specs.Reference.{denominator}
 use Rattle.rules.specs.Booking.{signed, amountsOf}
 use Rattle.rules.specs.Settle.{measureDenominator, exactsOf, Settlement, countOf, settle, answerOf}
@@ -47,9 +47,9 @@ keeps archive p k s rest m =
     rw (m .is) (record {
       fractions = fractionsOf (m .place) (m .basis) (m .quarters);
       are = rw (m .place-is, m .basis-is, m .quarters-are);
-      as-many = length-map (exactsOf (m .place) (m .basis) (m .quarters)) (signed (directionOf (m .place .measure .bytes)))
-          ∙ sym (amounts-length (directionOf (m .place .measure .bytes)) (measureDenominator (m .basis)) (exactsOf (m .place) (m .basis) (m .quarters)));
-      exact = exact-kept (directionOf (m .place .measure .bytes)) (measureDenominator (m .basis)) (exactsOf (m .place) (m .basis) (m .quarters)) rest positive;
+      as-many = length-map (exactsOf (m .place) (m .basis) (m .quarters)) (signed (m .place .terms .direction))
+          ∙ sym (amounts-length (m .place .terms .direction) (measureDenominator (m .basis)) (exactsOf (m .place) (m .basis) (m .quarters)));
+      exact = exact-kept (m .place .terms .direction) (measureDenominator (m .basis)) (exactsOf (m .place) (m .basis) (m .quarters)) rest positive;
     })
 
 pub settle-keeps : SettleKeeps

@@ -14,7 +14,7 @@ use Rattle.rules.specs.Archive.{isWhole, linkAt, twos, fieldAt, recordAt
 use Rattle.rules.specs.Terms.{plantAllowed, measureAllowed, pointOf, pointAllowed, beforeOf, quarterOf}
 use Rattle.rules.specs.Reference.{limitation, readCurve, curvePower, factorRows, isFor, plantFactor, numerator, magnitude, exactOf}
 use Rattle.rules.specs.Booking.{amountsOf}
-use Rattle.rules.specs.Settle.{placeOf, pointsOf, beforesOf, windBasis, firstMarked, solarBasis, basisBy, quartersOf, settled, settle}
+use Rattle.rules.specs.Settle.{admitted, placeOf, pointsOf, beforesOf, windBasis, firstMarked, solarBasis, basisBy, quartersOf, settled, settle}
 use Rattle.rules.specs.Fractions.{exactFractions}
 use Rattle.rules.specs.Encoding.{word, doubleWord, encoded, put}
 use Rattle.rules.specs.Host.{hostSettle}
@@ -78,7 +78,7 @@ module _ {A : Type 0} (on : Equality A) where
 
 -- to unfold this is to unfold every definition that the examples compute with
 unfoldable pub rules : Unit {0}
-unfolding naturals integers lists _>>=_ _>>_ require smaller larger linkAt twos fieldAt recordAt usedOf follow chain plantAllowed measureAllowed pointOf pointAllowed beforeOf quarterOf limitation readCurve curvePower factorRows isFor plantFactor numerator magnitude exactOf amountsOf placeOf pointsOf beforesOf windBasis firstMarked solarBasis basisBy quartersOf settled settle exactFractions word doubleWord encoded put hostSettle ownedBy linksOf ownedAt linksAt linkPlaces namers fresh offsetFor appendAfter append shown linkChecked recordChecked audit fileAll unlinked readUnder readBack linesFrom output decimal textOfAll flatMap caseA windCase plannedCase caseF caseG factorCase caseK fiveBefores twoPlants filingsA
+unfolding naturals integers lists _>>=_ _>>_ require smaller larger linkAt twos fieldAt recordAt usedOf follow chain plantAllowed measureAllowed pointOf pointAllowed beforeOf quarterOf limitation readCurve curvePower factorRows isFor plantFactor numerator magnitude exactOf amountsOf admitted placeOf pointsOf beforesOf windBasis firstMarked solarBasis basisBy quartersOf settled settle exactFractions word doubleWord encoded put hostSettle ownedBy linksOf ownedAt linksAt linkPlaces namers fresh offsetFor appendAfter append shown linkChecked recordChecked audit fileAll unlinked readUnder readBack linesFrom output decimal textOfAll flatMap caseA windCase plannedCase caseF caseG factorCase caseK fiveBefores twoPlants filingsA
 rules = tt
 
 pub figures-hold : Hold figures

@@ -21,6 +21,7 @@ pub mod Settled
 pub mod Demand
 pub mod Raise
 pub mod Curve
+pub mod Bounds
 pub mod Factors
 pub mod Host
 pub mod PlacesOnChains

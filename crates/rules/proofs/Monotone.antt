@@ -1,14 +1,14 @@
 -- Raised readings and running totals, on the quarters' readings alone.
 use mathlib.Core.Path.{_≡_, refl, _∙_, ap}
 use mathlib.Core.List.{List, [], _∷_, map}
-use Prim.Native.Nat.{ℕ, zero, suc, _*_, _/_, _≤_, _<_}
+use Prim.Native.Nat.{ℕ, zero, suc, _+_, _*_, _/_, _≤_, _<_}
 use native.Mathlib.Nat.{le-refl, zero-div, zero-add}
 use native.Mathlib.Omega.{arith}
 use lib.IntN.{ℤ, pos, _*ℤ_}
 use lib.Signed.{_≤ℤ_}
 use lib.ListN.{take}
 use Rattle.rules.specs.Numbers.{sum, sumℤ, orZero}
-use Rattle.rules.specs.Terms.{Direction, positive, negative, Execution, requested, tolerated, fixed, Quarter}
+use Rattle.rules.specs.Terms.{Direction, positive, negative, Execution, requested, tolerated, fixed, Terms, Quarter}
 use Rattle.rules.specs.Reference.{limitation, curvePower, plantFactor, Reference, onCurve, lastMeasured, onIrradiance, byFactor, asPlanned, denominator, numerator, magnitude, exactOf}
 use Rattle.rules.specs.Numbers.{smaller}
 use Rattle.rules.specs.Booking.{signed, bookedFrom, amountsOf}
@@ -47,28 +47,35 @@ abbrev NoMore : Direction → ℕ → ℕ → Type 0
 NoMore negative m m′ = m′ ≤ m
 NoMore positive m m′ = m ≤ m′
 
-exact-falls : (s : Direction) (x : Execution) (r : Reference) {q q′ : Quarter} → Higher q q′ → NoMore s (exactOf s x r q) (exactOf s x r q′)
-unfolding exactOf magnitude
-exact-falls negative x r {q} {q′} h =
+magnitude-falls : (s : Direction) (d : ℕ) (t : ℤ) {l l′ : ℤ} → l ≤ℤ l′ → NoMore s (magnitude s d t l) (magnitude s d t l′)
+unfolding magnitude
+magnitude-falls negative d t h = minus-anti t (times-mono d h)
+magnitude-falls positive d t h = minus-mono t (times-mono d h)
+
+exact-falls : (terms : Terms) (r : Reference) {q q′ : Quarter} → Higher q q′ → NoMore (terms .direction) (exactOf terms r q) (exactOf terms r q′)
+unfolding exactOf
+exact-falls terms r {q} {q′} h =
     rw (numerator-same r h)
-    (minus-anti (numerator r q′) (times-mono (denominator r) (limitation-mono negative x (h .measured) (h .limit))))
-exact-falls positive x r {q} {q′} h =
-    rw (numerator-same r h)
-    (minus-mono (numerator r q′) (times-mono (denominator r) (limitation-mono positive x (h .measured) (h .limit))))
+    (magnitude-falls (terms .direction) (denominator r) (numerator r q′) (limitation-mono (terms .direction) (terms .execution) (h .measured) (h .limit)))
 
 -- the same along two lists
 pub data Along {A B : Type 0} (R : A → B → Type 0) : List A → List B → Type 0 where
   done : Along R [] []
   then : {a : A} {b : B} {as′ : List A} {bs : List B} → R a b → Along R as′ bs → Along R (a ∷ as′) (b ∷ bs)
 
-sum-falls : (s : Direction) (x : Execution) (r : Reference) (n : ℕ) {qs qs′ : List Quarter} → Along Higher qs qs′
-    → NoMore s (sum (take n (map (exactOf s x r) qs))) (sum (take n (map (exactOf s x r) qs′)))
-sum-falls negative x r zero along = le-refl 0
-sum-falls positive x r zero along = le-refl 0
-sum-falls negative x r (suc n) done = le-refl 0
-sum-falls positive x r (suc n) done = le-refl 0
-sum-falls negative x r (suc n) (then h along) = omega (arith, exact-falls negative x r h, sum-falls negative x r n along)
-sum-falls positive x r (suc n) (then h along) = omega (arith, exact-falls positive x r h, sum-falls positive x r n along)
+none-more : (s : Direction) → NoMore s 0 0
+none-more negative = le-refl 0
+none-more positive = le-refl 0
+
+one-more : (s : Direction) (m m′ n n′ : ℕ) → NoMore s m m′ → NoMore s n n′ → NoMore s (m + n) (m′ + n′)
+one-more negative m m′ n n′ h k = omega (arith, h, k)
+one-more positive m m′ n n′ h k = omega (arith, h, k)
+
+sum-falls : (terms : Terms) (r : Reference) (n : ℕ) {qs qs′ : List Quarter} → Along Higher qs qs′
+    → NoMore (terms .direction) (sum (take n (map (exactOf terms r) qs))) (sum (take n (map (exactOf terms r) qs′)))
+sum-falls terms r zero along = none-more (terms .direction)
+sum-falls terms r (suc n) done = none-more (terms .direction)
+sum-falls terms r (suc n) (then h along) = one-more (terms .direction) _ _ _ _ (exact-falls terms r h) (sum-falls terms r n along)
 
 -- the running total after n quarters is the exact sum, rounded down, with its sign
 pub running : (s : Direction) (d : ℕ) (exact : List ℕ) (n : ℕ) → 0 < d → sumℤ (take n (amountsOf s d exact)) ≡ signed s (sum (take n exact) / d)
@@ -82,8 +89,8 @@ signed-falls : (s : Direction) (d m m′ : ℕ) → 0 < d → NoMore s m m′ �
 signed-falls negative d m m′ p h = parts-le _ _ (omega (arith, div-mono {d = d} p h))
 signed-falls positive d m m′ p h = neg-mono (parts-le (pos (m / d)) (pos (m′ / d)) (omega (arith, div-mono {d = d} p h)))
 
-pub running-falls : (s : Direction) (x : Execution) (r : Reference) (d : ℕ) {qs qs′ : List Quarter} → 0 < d → Along Higher qs qs′ → (n : ℕ)
-    → sumℤ (take n (amountsOf s d (map (exactOf s x r) qs′))) ≤ℤ sumℤ (take n (amountsOf s d (map (exactOf s x r) qs)))
-running-falls s x r d {qs} {qs′} p along n =
-    rw (running s d (map (exactOf s x r) qs) n p, running s d (map (exactOf s x r) qs′) n p)
-    (signed-falls s d _ _ p (sum-falls s x r n along))
+pub running-falls : (terms : Terms) (r : Reference) (d : ℕ) {qs qs′ : List Quarter} → 0 < d → Along Higher qs qs′ → (n : ℕ)
+    → sumℤ (take n (amountsOf (terms .direction) d (map (exactOf terms r) qs′))) ≤ℤ sumℤ (take n (amountsOf (terms .direction) d (map (exactOf terms r) qs)))
+running-falls terms r d {qs} {qs′} p along n =
+    rw (running (terms .direction) d (map (exactOf terms r) qs) n p, running (terms .direction) d (map (exactOf terms r) qs′) n p)
+    (signed-falls (terms .direction) d _ _ p (sum-falls terms r n along))

@@ -14,7 +14,7 @@ use Rattle.rules.specs.Outcome.{Outcome, given, _>>=_, _>>_, require}
 use Rattle.rules.specs.Refusals.{settleRefusals}
 use Rattle.rules.specs.Numbers.{sumℤ, member, mapFrom}
 use Rattle.rules.specs.Archive.{byteAt, linkAt, fieldAt, recordAt, kindOf, nextOf, isText, usedOf, Entry, entryAt, follow, chainFrom, chain}
-use Rattle.rules.specs.Terms.{Quarter, quarterOf, directionOf, executionOf}
+use Rattle.rules.specs.Terms.{Terms, Quarter, quarterOf}
 use Rattle.rules.specs.Settle.{Place, placeOf, Basis, quarterChain, quartersRead, measureDenominator, Settlement, settlementOf, settle, Answer, answerOf, listAfter}
 use Rattle.rules.specs.Fractions.{quarterNumbers, Raised}
 use Rattle.rules.specs.Promises.{Settles}
@@ -90,8 +90,8 @@ here n ns = rw (eq-eqb n n refl)
 there : (n m : ℕ) (ns : List ℕ) → member n ns ≡ true → member n (m ∷ ns) ≡ true
 there n m ns k = rw k (or-true (eqb n m))
 
-module _ (a b : List ℕ) (p k : ℕ) (g : Agree a b) (raised : Raised a b p k) (measure : List ℕ) where
-  quarter-higher : (n index : ℕ) → member n (quarterNumbers a p k) ≡ true → Higher (quarterOf measure index (recordAt a n)) (quarterOf measure index (recordAt b n))
+module _ (a b : List ℕ) (p k : ℕ) (g : Agree a b) (raised : Raised a b p k) (terms : Terms) where
+  quarter-higher : (n index : ℕ) → member n (quarterNumbers a p k) ≡ true → Higher (quarterOf terms index (recordAt a n)) (quarterOf terms index (recordAt b n))
   unfolding quarterOf
   quarter-higher n index m = record {
     month = g .outside n 1 (lit< tt) tt;
@@ -103,11 +103,11 @@ module _ (a b : List ℕ) (p k : ℕ) (g : Agree a b) (raised : Raised a b p k) 
   }
 
   entry-higher : (e : Entry) (index : ℕ) → Entered a 5 e → member (e .number) (quarterNumbers a p k) ≡ true
-      → Higher (quarterOf measure index (e .bytes)) (quarterOf measure index (recordAt b (e .number)))
+      → Higher (quarterOf terms index (e .bytes)) (quarterOf terms index (recordAt b (e .number)))
   entry-higher e index h m = rw (h .bytes-are) (quarter-higher (e .number) index m)
 
   abbrev read : ℕ → List Entry → List Quarter
-  read index es = mapFrom (λ i e. quarterOf measure i (e .bytes)) index es
+  read index es = mapFrom (λ i e. quarterOf terms i (e .bytes)) index es
 
   quarters-higher : (es : List Entry) (index : ℕ) → All (Entered a 5) es
       → ((n : ℕ) → member n (map (λ e. e .number) es) ≡ true → member n (quarterNumbers a p k) ≡ true)
@@ -178,13 +178,13 @@ module _ (first second : List ℕ) (p k : ℕ) (place : Place) (es : List Entry)
   quarters-too : (qs₂ : List Quarter) → ReadFrom second place qs₂ → Along Higher (quartersRead place es) qs₂
   quarters-too qs₂ found =
       subst (Along Higher (quartersRead place es)) (ap (quartersRead place) (same-given chain-too (found .are)) ∙ sym (found .read))
-      (quarters-higher first second p k agreed raised (place .measure .bytes) es 0 entered (λ n m. ap (member n) numbers-are ∙ m))
+      (quarters-higher first second p k agreed raised (place .terms) es 0 entered (λ n m. ap (member n) numbers-are ∙ m))
 
   compare : (basis : Basis) (qs₂ : List Quarter) → 0 < measureDenominator basis → ReadFrom second place qs₂
       → Compared (settlementOf place basis (quartersRead place es)) (settlementOf place basis qs₂)
   compare basis qs₂ positive found = record {
     counts = count-is place basis qs₂ ∙ along-length (quarters-too qs₂ found) ∙ sym (count-is place basis (quartersRead place es));
-    falls = running-falls (directionOf (place .measure .bytes)) (executionOf (place .measure .bytes)) (basis .reference) (measureDenominator basis) positive (quarters-too qs₂ found);
+    falls = running-falls (place .terms) (basis .reference) (measureDenominator basis) positive (quarters-too qs₂ found);
   }
 
 compared : (first second : List ℕ) (p k : ℕ) {s₁ s₂ : Settlement} (x : MadeFrom first p k s₁) (y : MadeFrom second p k s₂)

@@ -11,7 +11,7 @@ use Rattle.rules.specs.Refusals.{notArchive, badLink, wrongKind, settleR
 use Rattle.rules.specs.Numbers.{member}
 use Rattle.rules.specs.Archive.{linkAt, usedOf, nextOf, Entry, follow, atPlace, chainFrom, chain}
 use Rattle.rules.specs.Terms.{Technology, wind, solar, other, Variant, spitz, pauschal, Point, Before}
-use Rattle.rules.specs.Settle.{Place, Basis, placeOf, pointsOf, beforesOf, windBasis, firstMarked, solarBasis, pauschalBasis, basisBy, quartersOf, Settlement, settled, settle, Answer, answerOf}
+use Rattle.rules.specs.Settle.{Place, Basis, admitted, placeOf, pointsOf, beforesOf, windBasis, firstMarked, solarBasis, pauschalBasis, basisBy, quartersOf, Settlement, settled, settle, Answer, answerOf}
 use Rattle.rules.specs.Host.{hostSettle}
 use Rattle.rules.specs.Links.{Link, ownedAt, linksAt, standsAt}
 use Rattle.rules.specs.Filing.{fresh, offsetIn, offsetFor, append}
@@ -92,13 +92,17 @@ used-refused archive n e = go (eqb n notArchive) refl (within-used {ns = notArch
 
 -- ---- settle
 
+admitted-within : (plant measure : List ℕ) → RefusedWithin settleRefusals (admitted plant measure)
+unfolding admitted
+admitted-within plant measure = within-test _ 6 _ refl (within-test _ 7 _ refl (within-given _))
+
 place-within : (archive : List ℕ) (p k : ℕ) → RefusedWithin settleRefusals (placeOf archive p k)
 unfolding placeOf
 place-within archive p k =
     within-bind _ _ (within-used refl archive) (λ used.
     within-bind _ _ (within-place refl refl archive used 1 4 refl p 0 _) (λ plant.
     within-bind _ _ (within-place refl refl archive used 3 5 refl k (plant .number) _) (λ measure.
-    within-test _ 6 _ refl (within-test _ 7 _ refl (within-given _)))))
+    within-bind _ _ (admitted-within (plant .bytes) (measure .bytes)) (λ terms. within-given _))))
 
 points-within : (archive : List ℕ) (place : Place) → RefusedWithin settleRefusals (pointsOf archive place)
 unfolding pointsOf

@@ -7,7 +7,7 @@ use lib.Dec.{leb, leb→le}
 use lib.ListN.{length, length-map}
 use Rattle.rules.specs.Outcome.{given}
 use Rattle.rules.specs.Archive.{Entry}
-use Rattle.rules.specs.Terms.{Quarter, Direction, directionOf}
+use Rattle.rules.specs.Terms.{Quarter, Direction}
 use Rattle.rules.specs.Booking.{bookedFrom, amountsOf}
 use Rattle.rules.specs.Settle.{Place, placeOf, Basis, basisOf, quarterChain, quartersRead, quartersOf, exactsOf, measureDenominator, Settlement, settlementOf, settled, settle}
 use Rattle.rules.proofs.Inversion.{Holds, holds-bind, holds-require, holds-given, both-left, both-right}
@@ -71,4 +71,4 @@ amounts-length s d exact = simp (length-map, booked-length)
 
 pub count-is : (place : Place) (basis : Basis) (quarters : List Quarter) → length (settlementOf place basis quarters .amounts) ≡ length quarters
 count-is place basis quarters =
-    amounts-length (directionOf (place .measure .bytes)) (measureDenominator basis) (exactsOf place basis quarters) ∙ simp length-map
+    amounts-length (place .terms .direction) (measureDenominator basis) (exactsOf place basis quarters) ∙ simp length-map

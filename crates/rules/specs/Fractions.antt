@@ -10,7 +10,7 @@ use lib.ListN.{length, take, drop}
 use Rattle.rules.specs.Outcome.{Outcome, given, _>>=_, after}
 use Rattle.rules.specs.Numbers.{sumℤ, member}
 use Rattle.rules.specs.Archive.{byteAt, fieldAt, recordAt}
-use Rattle.rules.specs.Terms.{Quarter, directionOf}
+use Rattle.rules.specs.Terms.{Quarter}
 use Rattle.rules.specs.Booking.{signed}
 use Rattle.rules.specs.Settle.{Place, placeOf, Basis, basisOf, quarterChain, quartersOf, measureDenominator, exactsOf}
 
@@ -24,7 +24,7 @@ pub record Fractions : Type 0 where
 abbrev pub fractionsOf : Place → Basis → List Quarter → Fractions
 fractionsOf place basis quarters = record {
   denominator = measureDenominator basis;
-  numerators = map (signed (directionOf (place .measure .bytes))) (exactsOf place basis quarters);
+  numerators = map (signed (place .terms .direction)) (exactsOf place basis quarters);
 }
 
 unfoldable pub exactFractions : List ℕ → ℕ → ℕ → Outcome Fractions

@@ -5,7 +5,7 @@ use mathlib.Core.List.{List, [], _∷_}
 use lib.Dec.{leb, ltb}
 use lib.IntN.{ℤ, pos, _-ℤ_, _*ℤ_}
 use Rattle.rules.specs.Numbers.{smaller, larger, orZero}
-use Rattle.rules.specs.Terms.{Direction, positive, negative, Execution, requested, tolerated, fixed, Point, Quarter}
+use Rattle.rules.specs.Terms.{Direction, positive, negative, Execution, requested, tolerated, fixed, Terms, Point, Quarter}
 pub use Rattle.rules.specs.declared.FactorRow.{FactorRow}
 
 -- ---- limitation value L (Wert der Leistungslimitierung, 001, 3.1)
@@ -111,6 +111,9 @@ unfoldable pub magnitude : Direction → ℕ → ℤ → ℤ → ℕ
 magnitude negative d t l = orZero (t -ℤ l *ℤ pos d)
 magnitude positive d t l = orZero (l *ℤ pos d -ℤ t)
 
-unfoldable pub exactOf : Direction → Execution → Reference → Quarter → ℕ
-exactOf direction execution reference q =
-    magnitude direction (denominator reference) (numerator reference q) (limitation direction execution (q .measured) (q .limit))
+-- a quarter's L
+abbrev pub limitOf : Terms → Quarter → ℤ
+limitOf terms q = limitation (terms .direction) (terms .execution) (q .measured) (q .limit)
+
+unfoldable pub exactOf : Terms → Reference → Quarter → ℕ
+exactOf terms reference q = magnitude (terms .direction) (denominator reference) (numerator reference q) (limitOf terms q)

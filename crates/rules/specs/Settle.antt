@@ -13,18 +13,26 @@ use Rattle.rules.specs.Refusals.{noPlant, noMeasure, badPlant, badMeasur
 use Rattle.rules.specs.Numbers.{all, keep, sum, sumℤ, orZero, mapFrom}
 use Rattle.rules.specs.Archive.{recordAt, usedOf, Entry, atPlace, chain}
 use Rattle.rules.specs.Archive.{plantKind, pointKind, measureKind, beforeKind, quarterKind, firstPlant, firstPoint, firstMeasure, firstBefore, firstQuarter}
-use Rattle.rules.specs.Terms.{Technology, wind, solar, other, Variant, spitz, pauschal, Direction, Execution, requested, tolerated, fixed}
-use Rattle.rules.specs.Terms.{technologyOf, variantOf, directionOf, executionOf, nominalPower, plantAllowed, measureAllowed}
+use Rattle.rules.specs.Terms.{Technology, wind, solar, other, Variant, spitz, pauschal, Execution, requested, tolerated, fixed}
+use Rattle.rules.specs.Terms.{Terms, termsOf, plantAllowed, measureAllowed}
 use Rattle.rules.specs.Terms.{isPower, isSpeed, isIrradiance, isMarked, markAllowed, Point, Before, Quarter, pointOf, pointAllowed, beforeOf, quarterOf}
 use Rattle.rules.specs.Reference.{curvePower, Reference, onCurve, lastMeasured, onIrradiance, byFactor, asPlanned, denominator, exactOf}
 use Rattle.rules.specs.Booking.{amountsOf}
 
 -- ---- the place: 1; plants to p (2, 3, 4); measures to k (2, 3, 5); 6; 7
 
+-- 6, then 7: what plant and measure say
+unfoldable pub admitted : List ℕ → List ℕ → Outcome Terms
+admitted plant measure = do
+  require (plantAllowed plant) badPlant
+  require (measureAllowed plant measure) badMeasure
+  given (termsOf plant measure)
+
 pub record Place : Type 0 where
   pub used : ℕ
   pub plant : Entry
   pub measure : Entry
+  pub terms : Terms
   -- links followed so far
   pub links : ℕ
 
@@ -33,9 +41,8 @@ placeOf archive p k = do
   used ← usedOf archive
   plant ← atPlace archive used plantKind noPlant p 0 (firstPlant (recordAt archive 0))
   measure ← atPlace archive used measureKind noMeasure k (plant .number) (firstMeasure (plant .bytes))
-  require (plantAllowed (plant .bytes)) badPlant
-  require (measureAllowed (plant .bytes) (measure .bytes)) badMeasure
-  given (record { used = used; plant = plant; measure = measure; links = p + k })
+  terms ← admitted (plant .bytes) (measure .bytes)
+  given (record { used = used; plant = plant; measure = measure; terms = terms; links = p + k })
 
 -- ---- curve points: 2, 3, then 9, 10
 
@@ -126,17 +133,17 @@ unfoldable pub basisBy : Technology → Variant → List ℕ → Place → Outco
 basisBy wind spitz archive place = do
   points ← pointsOf archive place
   entries ← beforesOf archive place
-  windBasis (nominalPower (place .plant .bytes)) points entries
+  windBasis (place .terms .nominalPower) points entries
 basisBy wind pauschal archive place = pauschalBasis archive place
 basisBy solar spitz archive place = do
   entries ← beforesOf archive place
   solarBasis (marked entries) (length entries)
-basisBy solar pauschal archive place = given (record { reference = byFactor (nominalPower (place .plant .bytes)); links = 0 })
+basisBy solar pauschal archive place = given (record { reference = byFactor (place .terms .nominalPower); links = 0 })
 basisBy other spitz archive place = given (record { reference = asPlanned; links = 0 })
 basisBy other pauschal archive place = pauschalBasis archive place
 
 abbrev pub basisOf : List ℕ → Place → Outcome Basis
-basisOf archive place = basisBy (technologyOf (place .plant .bytes)) (variantOf (place .plant .bytes)) archive place
+basisOf archive place = basisBy (place .terms .technology) (place .terms .variant) archive place
 
 -- ---- quarters: 2, 3, then 8, 9
 
@@ -144,7 +151,7 @@ abbrev pub quarterChain : List ℕ → Place → Outcome (List Entry)
 quarterChain archive place = chain archive (place .used) quarterKind (place .measure .number) (firstQuarter (place .measure .bytes))
 
 abbrev pub quartersRead : Place → List Entry → List Quarter
-quartersRead place entries = mapFrom (λ index e. quarterOf (place .measure .bytes) index (e .bytes)) 0 entries
+quartersRead place entries = mapFrom (λ index e. quarterOf (place .terms) index (e .bytes)) 0 entries
 
 -- the fields that T needs are in range; fields that no rule needs are neither read nor checked
 abbrev pub referenceReadable : Reference → Quarter → Bool
@@ -160,14 +167,14 @@ limitReadable requested q = isPower (q .measured) && isPower (q .limit)
 limitReadable tolerated q = isPower (q .measured)
 limitReadable fixed q = isPower (q .measured)
 
-abbrev pub readable : Place → Basis → Quarter → Bool
-readable place basis q = limitReadable (executionOf (place .measure .bytes)) q && referenceReadable (basis .reference) q
+abbrev pub readable : Terms → Reference → Quarter → Bool
+readable terms reference q = limitReadable (terms .execution) q && referenceReadable reference q
 
 unfoldable pub quartersOf : List ℕ → Place → Basis → Outcome (List Quarter)
 quartersOf archive place basis = do
   entries ← quarterChain archive place
   require (leb 1 (length entries) && leb (length entries) 2976) badCount
-  require (all (readable place basis) (quartersRead place entries)) outOfRange
+  require (all (readable (place .terms) (basis .reference)) (quartersRead place entries)) outOfRange
   given (quartersRead place entries)
 
 -- ---- exact magnitudes and amounts
@@ -177,8 +184,7 @@ abbrev pub measureDenominator : Basis → ℕ
 measureDenominator basis = 4 * denominator (basis .reference)
 
 abbrev pub exactsOf : Place → Basis → List Quarter → List ℕ
-exactsOf place basis quarters =
-    map (exactOf (directionOf (place .measure .bytes)) (executionOf (place .measure .bytes)) (basis .reference)) quarters
+exactsOf place basis quarters = map (exactOf (place .terms) (basis .reference)) quarters
 
 pub record Settlement : Type 0 where
   pub amounts : List ℤ
@@ -195,7 +201,7 @@ totalOf s = sumℤ (s .amounts)
 -- links followed = p + k + curve points (wind Spitz) + before-quarters (where T uses them) + quarters
 abbrev pub settlementOf : Place → Basis → List Quarter → Settlement
 settlementOf place basis quarters = record {
-  amounts = amountsOf (directionOf (place .measure .bytes)) (measureDenominator basis) (exactsOf place basis quarters);
+  amounts = amountsOf (place .terms .direction) (measureDenominator basis) (exactsOf place basis quarters);
   links = place .links + basis .links + length quarters;
 }
 

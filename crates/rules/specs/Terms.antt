@@ -69,6 +69,26 @@ measureAllowed plant measure =
     leb 1 (byteAt measure 1) && leb (byteAt measure 1) 2 && (leb 1 (byteAt measure 2) && leb (byteAt measure 2) 3)
     && (eqb (byteAt measure 1) 2 || eqb (byteAt plant 1) 3)
 
+-- ---- the terms of a measure
+
+-- what a plant and a measure of it say, read once when the measure's place is admitted; nothing else of their bytes decides a quarter
+pub record Terms : Type 0 where
+  pub technology : Technology
+  pub variant : Variant
+  -- Pn
+  pub nominalPower : ℕ
+  pub direction : Direction
+  pub execution : Execution
+
+abbrev pub termsOf : List ℕ → List ℕ → Terms
+termsOf plant measure = record {
+  technology = technologyOf plant;
+  variant = variantOf plant;
+  nominalPower = nominalPower plant;
+  direction = directionOf measure;
+  execution = executionOf measure;
+}
+
 -- ---- curve point
 
 -- a point of the power curve (Leistungskennlinie, 001, 3.2.2.1): 8-11 speed, 12-15 power
@@ -101,13 +121,13 @@ beforeOf r = record { measured = fieldAt r 8; weather = fieldAt r 16 }
 
 -- ---- quarter
 
--- month 1-12 and quarter of the day 0-95, in UTC+1, of a measure's quarter: from the measure, the quarter's index along the chain,
--- counted from 0, and the quarter; bytes 1 and 2 of the quarter
-abbrev pub monthOf : List ℕ → ℕ → List ℕ → ℕ
-monthOf measure index r = byteAt r 1
+-- month 1-12 and quarter of the day 0-95, in UTC+1, of a measure's quarter: over the terms, the quarter's index along the chain, counted
+-- from 0, and its bytes; bytes 1 and 2
+abbrev pub monthOf : Terms → ℕ → List ℕ → ℕ
+monthOf terms index r = byteAt r 1
 
-abbrev pub quarterOfDayOf : List ℕ → ℕ → List ℕ → ℕ
-quarterOfDayOf measure index r = byteAt r 2
+abbrev pub quarterOfDayOf : Terms → ℕ → List ℕ → ℕ
+quarterOfDayOf terms index r = byteAt r 2
 
 -- a quarter-hour of the measure: 8-11 measured power, 12-15 sent limit, 16-19 weather, 20-23 planned power
 pub record Quarter : Type 0 where
@@ -118,10 +138,10 @@ pub record Quarter : Type 0 where
   pub weather : ℤ
   pub planned : ℤ
 
-unfoldable pub quarterOf : List ℕ → ℕ → List ℕ → Quarter
-quarterOf measure index r = record {
-  month = monthOf measure index r;
-  quarterOfDay = quarterOfDayOf measure index r;
+unfoldable pub quarterOf : Terms → ℕ → List ℕ → Quarter
+quarterOf terms index r = record {
+  month = monthOf terms index r;
+  quarterOfDay = quarterOfDayOf terms index r;
   measured = fieldAt r 8;
   limit = fieldAt r 12;
   weather = fieldAt r 16;
