@@ -8,6 +8,7 @@ use mir.Syntax.{w64}
 use mir.Val.{Fits}
 use Rattle.rules.specs.Terms.{Point}
 use Rattle.rules.specs.Reference.{lineAt}
+use Rattle.rules.proofs.Curve.{line-low}
 use Rattle.curve.specs.Lines.{InRange}
 
 module _ (a b : Point) where
@@ -117,7 +118,7 @@ module _ {a b : Point} (p : Piece a b) where
 
   module _ (v power rest : ℕ) (from : a .speed ≤ v) (h : v < b .speed) (l : OnLine a b v power rest) where
     pub power-low : power ≤ 1000000000
-    power-low = omega (arith, line-power a b v power rest l, line-low a b v from h 1000000000 (p .left .low-power) (p .right .low-power))
+    power-low = omega (arith, line-power a b v power rest l, line-low a b v 1000000000 from h (p .left .low-power) (p .right .low-power))
 
     pub power-fits : Fits w64 (power + 1)
     power-fits = record { fits = omega (arith, power-low) }

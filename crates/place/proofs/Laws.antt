@@ -1,28 +1,32 @@
 -- What a place of the code is and says, over plain variables.
-use mathlib.Core.Path.{_≡_, refl, sym, _∙_, ap, subst}
-use mathlib.Core.Bool.{Bool, true, false}
+use mathlib.Core.Path.{_≡_, refl, sym, _∙_, ap, ap₂, subst}
 use mathlib.Core.List.{List}
 use Prim.Native.Nat.{ℕ, _+_, _*_, _-_, _≤_, _<_}
 use native.Mathlib.Omega.{arith}
 use lib.ListN.{take, drop}
-use Rattle.rules.specs.Outcome.{Outcome, refused, given, _>>=_, _>>_, require}
-use Rattle.rules.specs.Refusals.{notArchive, noPlant, noMeasure, badPlant, badMeasure}
+use Rattle.rules.specs.Outcome.{Outcome, refused, given, _>>=_}
+use Rattle.rules.specs.Refusals.{notArchive, noPlant, noMeasure}
 use Rattle.rules.specs.Archive.{recordAt, usedOf, Entry, entryAt, atPlace, plantKind, measureKind}
-use Rattle.rules.specs.Terms.{plantAllowed, measureAllowed}
+use Rattle.rules.specs.Terms as book
 use Rattle.rules.specs.Settle as settle
-use Rattle.rules.specs.Settle.{placeOf}
+use Rattle.rules.specs.Settle.{admitted, placeOf}
 use Rattle.rules.proofs.Chains.{record-part}
 use Rattle.rules.proofs.Refusals.{used-refused}
 use Rattle.rules.proofs.Inversion.{given-inj}
 use Rattle.rules.proofs.Walks as walks
-use Rattle.rules.proofs.Sound.{bind-both, required, used-head, head-room}
+use Rattle.rules.proofs.Bounds.{admitted-low}
+use Rattle.rules.proofs.Sound.{bind-both, used-head, head-room}
 use Rattle.chains.specs.Answers.{reachAnswer}
 use Rattle.chains.specs.declared.Reach.{Reach}
 use Rattle.chains.specs.declared.Reach.the-variants as reach
+use Rattle.terms.specs.declared.Terms.{Terms}
+use Rattle.terms.specs.declared.Admitted.{Admitted}
+use Rattle.terms.specs.declared.Admitted.the-variants as admission
+use Rattle.terms.specs.Meanings.{held, admittedAnswer}
 use Rattle.place.specs.declared.Place.{Place}
 use Rattle.place.specs.declared.Placed.{Placed}
 use Rattle.place.specs.declared.Placed.the-variants.{At, Refused}
-use Rattle.place.specs.Places.{meant, Lies, numbersOf, placedAnswer, reachRefusal, plantAt, measureAt, admitted, placeUnder}
+use Rattle.place.specs.Places.{meant, Lies, numbersOf, placedAnswer, reachRefusal, plantAt, measureAt, admittedAt, placeUnder}
 
 -- ---- the answer of a walk to a place
 
@@ -63,44 +67,49 @@ unwalked place o answer n a t = rw t (go o (sym t ∙ a))
 
 -- ---- 6, 7
 
--- the tests of the records' own 32 bytes
-pub plant-tested : (archive : List ℕ) (n : ℕ) (t u : Bool) → t ≡ plantAllowed (take (32 * n + 32 - 32 * n) (drop (32 * n) archive)) → t ≡ u
-    → plantAllowed (recordAt archive n) ≡ u
-plant-tested archive n t u a e = rw (← record-part archive n) (sym a ∙ e)
+-- by the answer that the code was given for the records' own 32 bytes
+module _ (archive : List ℕ) (used plant measure links : ℕ) (answer : Admitted)
+    (a : answer ≡ admittedAnswer (admitted (take (32 * plant + 32 - 32 * plant) (drop (32 * plant) archive)) (take (32 * measure + 32 - 32 * measure) (drop (32 * measure) archive)))) where
+  abbrev outcome : Outcome book.Terms
+  outcome = admitted (recordAt archive plant) (recordAt archive measure)
 
-pub measure-tested : (archive : List ℕ) (n m : ℕ) (t u : Bool)
-    → t ≡ measureAllowed (take (32 * n + 32 - 32 * n) (drop (32 * n) archive)) (take (32 * m + 32 - 32 * m) (drop (32 * m) archive)) → t ≡ u
-    → measureAllowed (recordAt archive n) (recordAt archive m) ≡ u
-measure-tested archive n m t u a e = rw (← record-part archive n, ← record-part archive m) (sym a ∙ e)
+  answered : answer ≡ admittedAnswer outcome
+  answered = a ∙ ap₂ (λ (x y : List ℕ). admittedAnswer (admitted x y)) (record-part archive plant) (record-part archive measure)
 
-module _ (archive : List ℕ) (place : Place) where
-  pub admit-plant : plantAllowed (recordAt archive (place .plant)) ≡ false → Refused badPlant ≡ placedAnswer (admitted (meant archive place))
-  unfolding admitted _>>_ require
-  admit-plant f = rw f
+  pub not-admitted : (n : ℕ) → answer ≡ admission.Refused n → Refused n ≡ placedAnswer (admittedAt archive used plant measure links)
+  unfolding admittedAt _>>=_
+  not-admitted n t = go outcome (sym t ∙ answered)
+    where
+      go : (o : Outcome book.Terms) → admission.Refused n ≡ admittedAnswer o
+          → Refused n ≡ placedAnswer (o >>= λ terms. given (record { used = used; plant = entryAt archive plant; measure = entryAt archive measure; terms = terms; links = links }))
+      go (refused k) b = ap Refused (cc)
+      go (given x) b = let z : _≡_ {A = ℕ} 0 1 = cc in absurd (omega arith)
 
-  module _ (plant : plantAllowed (recordAt archive (place .plant)) ≡ true) where
-    pub admit-measure : measureAllowed (recordAt archive (place .plant)) (recordAt archive (place .measure)) ≡ false
-        → Refused badMeasure ≡ placedAnswer (admitted (meant archive place))
-    unfolding admitted _>>_ require
-    admit-measure f = rw (plant, f)
-
-    pub admit-both : measureAllowed (recordAt archive (place .plant)) (recordAt archive (place .measure)) ≡ true
-        → At place ≡ placedAnswer (admitted (meant archive place))
-    unfolding admitted _>>_ require
-    admit-both t = rw (plant, t)
+  pub admitted-with : (terms : Terms) → answer ≡ admission.With terms
+      → At (record { used = used; plant = plant; measure = measure; terms = terms; links = links }) ≡ placedAnswer (admittedAt archive used plant measure links)
+  unfolding admittedAt _>>=_
+  admitted-with terms t = go outcome (sym t ∙ answered)
+    where
+      go : (o : Outcome book.Terms) → admission.With terms ≡ admittedAnswer o
+          → At (record { used = used; plant = plant; measure = measure; terms = terms; links = links })
+          ≡ placedAnswer (o >>= λ terms. given (record { used = used; plant = entryAt archive plant; measure = entryAt archive measure; terms = terms; links = links }))
+      go (refused k) b = let z : _≡_ {A = ℕ} 0 1 = cc in absurd (omega arith)
+      go (given x) b =
+          let i : terms ≡ held x = cc in
+          ap (λ (y : Terms). At (record { used = used; plant = plant; measure = measure; terms = y; links = links })) i
 
 -- ---- the parts of `placeOf`, by the answers that the code was given
 
 module _ (archive : List ℕ) (used plant links k : ℕ) where
   pub under-refused : (n r : ℕ) → measureAt archive used (entryAt archive plant) k ≡ refused n → r ≡ n
-      → Refused r ≡ placedAnswer (placeUnder archive used (entryAt archive plant) links k)
+      → Refused r ≡ placedAnswer (placeUnder archive used plant links k)
   unfolding placeUnder _>>=_
   under-refused n r f i = rw (f, i)
 
   pub under-found : (measure sum : ℕ) (answer : Placed) → measureAt archive used (entryAt archive plant) k ≡ given (entryAt archive measure) → sum ≡ links + k
-      → answer ≡ placedAnswer (admitted (meant archive (record { used = used; plant = plant; measure = measure; links = sum })))
-      → answer ≡ placedAnswer (placeUnder archive used (entryAt archive plant) links k)
-  unfolding placeUnder _>>=_
+      → answer ≡ placedAnswer (admittedAt archive used plant measure sum)
+      → answer ≡ placedAnswer (placeUnder archive used plant links k)
+  unfolding placeUnder admittedAt _>>=_
   under-found measure sum answer f h a = rw (f, ← h) a
 
 module _ (archive : List ℕ) (p k : ℕ) where
@@ -114,8 +123,8 @@ module _ (archive : List ℕ) (p k : ℕ) where
     find-refused n r f i = rw (head, f, i)
 
     pub find-under : (plant links : ℕ) (answer : Placed) → plantAt archive used p ≡ given (entryAt archive plant) → links ≡ p
-        → answer ≡ placedAnswer (placeUnder archive used (entryAt archive plant) links k) → answer ≡ placedAnswer (placeOf archive p k)
-    unfolding placeOf placeUnder admitted _>>=_
+        → answer ≡ placedAnswer (placeUnder archive used plant links k) → answer ≡ placedAnswer (placeOf archive p k)
+    unfolding placeOf placeUnder _>>=_
     find-under plant links answer f h a = rw (head, f, ← h) a
 
 -- ---- what a place that was found is, for callers
@@ -126,7 +135,7 @@ module _ (archive : List ℕ) (p k : ℕ) where
     head : usedOf archive ≡ given (place .used)
     plant-reached : walks.Placed archive (place .used) plantKind 0 p (place .plant)
     measure-reached : walks.Placed archive (place .used) measureKind (place .plant .number) k (place .measure)
-    plant-allowed : plantAllowed (place .plant .bytes) ≡ true
+    nominal-low : place .terms .nominalPower ≤ 1000000000
     count : place .links ≡ p + k
 
   module _ (place : settle.Place) (e : placeOf archive p k ≡ given place) where
@@ -136,13 +145,12 @@ module _ (archive : List ℕ) (p k : ℕ) where
         let a = bind-both (usedOf archive) _ e in
         let b = bind-both (plantAt archive (a .0) p) _ (a .2) in
         let c = bind-both (measureAt archive (a .0) (b .0) k) _ (b .2) in
-        let d = required _ badPlant _ (c .2) in
-        let f = required _ badMeasure _ (d .1) in
-        subst Parts (given-inj (f .1)) (record {
+        let d = bind-both (admitted (b .0 .bytes) (c .0 .bytes)) _ (c .2) in
+        subst Parts (given-inj (d .2)) (record {
           head = a .1;
           plant-reached = walks.placed archive (a .0) plantKind noPlant p 0 _ (b .0) (b .1);
           measure-reached = walks.placed archive (a .0) measureKind noMeasure k (b .0 .number) _ (c .0) (c .1);
-          plant-allowed = d .0;
+          nominal-low = admitted-low (b .0 .bytes) (c .0 .bytes) .of (d .0) (d .1);
           count = refl;
         })
 
@@ -153,17 +161,21 @@ module _ (archive : List ℕ) (p k : ℕ) where
         let plant = parts .plant-reached in
         let measure = parts .measure-reached in (
           whole (place .plant) (place .measure) (plant .is) (measure .is),
-          record { room = h .0; few = omega arith; plant-used = plant .below; measure-used = measure .below },
+          record {
+            room = h .0;
+            few = omega arith;
+            plant-used = plant .below;
+            measure-used = measure .below;
+            links-few = omega (arith, parts .count, plant .above, measure .above, measure .below);
+            nominal-natural = refl;
+            nominal-low = parts .nominal-low;
+          },
         )
       where
         whole : (a b : Entry) → a ≡ entryAt archive (a .number) → b ≡ entryAt archive (b .number)
-            → _≡_ {A = settle.Place} (record { used = place .used; plant = a; measure = b; links = place .links })
-            (record { used = place .used; plant = entryAt archive (a .number); measure = entryAt archive (b .number); links = place .links })
+            → _≡_ {A = settle.Place} (record { used = place .used; plant = a; measure = b; terms = place .terms; links = place .links })
+            (record { used = place .used; plant = entryAt archive (a .number); measure = entryAt archive (b .number); terms = place .terms; links = place .links })
         whole a b f g = cc
-
-    -- links rise, so numbers are no smaller than the links followed to them
-    pub found-links : place .links ≤ place .measure .number
-    found-links = let c = parts .count in let a = parts .plant-reached in let m = parts .measure-reached in omega arith
 
 -- the code's answer, taken apart
 module _ (o : Outcome settle.Place) (answer : Placed) (a : answer ≡ placedAnswer o) where
@@ -186,8 +198,6 @@ module _ (archive : List ℕ) (p k : ℕ) where
   pub record Located (q : Place) : Type 0 where
     pub is : placeOf archive p k ≡ given (meant archive q)
     pub lies : Lies archive q
-    pub plant-allowed : plantAllowed (recordAt archive (q .plant)) ≡ true
-    pub links-few : q .links ≤ q .measure
 
   pub located : (answer : Placed) (q : Place) → answer ≡ placedAnswer (placeOf archive p k) → answer ≡ At q → Located q
   located answer q a t =
@@ -195,12 +205,4 @@ module _ (archive : List ℕ) (p k : ℕ) where
       subst Located (w .2) (from (w .0) (w .1))
     where
       from : (place : settle.Place) → placeOf archive p k ≡ given place → Located (numbersOf place)
-      from place e =
-          let f = found archive p k place e in
-          let d = parts archive p k place e in
-          record {
-            is = e ∙ ap given (f .0);
-            lies = f .1;
-            plant-allowed = ap (λ (x : Entry). plantAllowed (x .bytes)) (sym (d .plant-reached .is)) ∙ d .plant-allowed;
-            links-few = found-links archive p k place e;
-          }
+      from place e = let f = found archive p k place e in record { is = e ∙ ap given (f .0); lies = f .1 }

@@ -5,17 +5,21 @@ ghost use lib.ListN.{length};
 ghost use Rattle.rules.specs.Archive.{entryAt};
 ghost use Rattle.rules.specs.Settle.{placeOf};
 ghost use Rattle.chains.specs.Answers.{reachAnswer};
-ghost use Rattle.place.specs.Places.{meant, Lies, placedAnswer, reachRefusal, plantAt, measureAt, admitted, placeUnder};
+ghost use Rattle.place.specs.Places.{placedAnswer, reachRefusal, Reached, PlantReached};
+ghost use Rattle.place.specs.Places.{plantAt, measureAt, admittedAt, placeUnder};
 use archive::Head;
 use chains::Reach;
 use rules::kind;
 use rules::refusal;
+use terms::Admitted;
+use terms::Terms;
 
-// U, the numbers of plant and measure, and the links followed to them.
+// U, the numbers of plant and measure, what they say, and the links followed to them.
 pub struct Place {
     pub used: u64,
     pub plant: u64,
     pub measure: u64,
+    pub terms: Terms,
     pub links: u64,
 }
 
@@ -60,44 +64,39 @@ fn number(reach: Reach) -> u64
     }
 }
 
-// 6, then 7.
-fn admit(archive: &[u8], place: Place) -> Placed
-    requires { ⌜ Lies (now archive) place ⌝ }
-    ensures { λ r. ⌜ r ≡ placedAnswer (admitted (meant (now (archive .entry)) place)) ⌝ }
+// A plant and a measure of it, to which so many links led: 6, then 7.
+fn admit(archive: &[u8], used: u64, plant: u64, measure: u64, links: u64) -> Placed
+    requires { ⌜ Reached (now archive) used plant measure ⌝ }
+    ensures { λ r. ⌜ r ≡ placedAnswer (admittedAt (now (archive .entry)) used plant measure links) ⌝ }
 {
-    let i = place.plant as usize;
-    let j = place.measure as usize;
-    let plant_allowed = terms::plant_allowed(&archive[32 * i..32 * i + 32]);
-    let measure_allowed = terms::measure_allowed(
+    let i = plant as usize;
+    let j = measure as usize;
+    let admitted = terms::admit(
         &archive[32 * i..32 * i + 32],
         &archive[32 * j..32 * j + 32],
     );
-    if !plant_allowed {
-        return Placed::Refused(refusal::BAD_PLANT);
+    match admitted {
+        Admitted::Refused(n) => Placed::Refused(n),
+        Admitted::With(terms) => Placed::At(Place {
+            used,
+            plant,
+            measure,
+            terms,
+            links,
+        }),
     }
-    if !measure_allowed {
-        return Placed::Refused(refusal::BAD_MEASURE);
-    }
-    Placed::At(place)
 }
 
 // From a plant to which so many links led: measures to k (2, 3, 5); 6; 7.
 fn place_under(archive: &[u8], used: u64, plant: u64, plants: u64, k: u64) -> Placed
-    requires { ⌜ (32 * used ≤ length (now archive)) × (used < 65536) × (plant < used) × (plants ≤ plant) ⌝ }
-    ensures { λ r. ⌜ r ≡ placedAnswer (placeUnder (now (archive .entry)) used (entryAt (now (archive .entry)) plant) plants k) ⌝ }
+    requires { ⌜ PlantReached (now archive) used plant plants ⌝ }
+    ensures { λ r. ⌜ r ≡ placedAnswer (placeUnder (now (archive .entry)) used plant plants k) ⌝ }
 {
     let to_measure = measure_at(archive, used, plant, k);
     let Reach::At(measure, measures) = to_measure else {
         return Placed::Refused(number(to_measure));
     };
-    let links = plants + measures;
-    let place = Place {
-        used,
-        plant,
-        measure,
-        links,
-    };
-    admit(archive, place)
+    admit(archive, used, plant, measure, plants + measures)
 }
 
 // 1; plants to p (2, 3, 4); measures to k (2, 3, 5); 6; 7.

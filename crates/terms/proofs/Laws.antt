@@ -1,27 +1,34 @@
--- Pn of a plant that refusal 6 lets pass, over plain variables.
-use mathlib.Core.Path.{_≡_, _∙_, ap}
-use mathlib.Core.Bool.{true, _&&_}
+-- What admits a measure, by the tests of the code, over plain variables.
+use mathlib.Core.Path.{_≡_, sym, _∙_}
+use mathlib.Core.Bool.{true, false}
 use mathlib.Core.List.{List}
-use Prim.Native.Nat.{ℕ, _≤_}
-use native.Mathlib.Omega.{arith}
-use lib.Dec.{leb}
-use lib.IntN.{ℤ, pos}
-use Rattle.rules.specs.Numbers.{orZero}
-use Rattle.rules.specs.Archive.{byteAt, fieldAt}
-use Rattle.rules.specs.Terms.{isNominalPower, nominalPower, plantAllowed}
-use Rattle.rules.proofs.Ranges.{within-natural}
-use Rattle.rules.proofs.Sound.{both}
+use Prim.Native.Nat.{ℕ}
+use lib.IntN.{ℤ}
+use Rattle.rules.specs.Outcome.{_>>_, require}
+use Rattle.rules.specs.Refusals.{badPlant, badMeasure}
+use Rattle.rules.specs.Archive.{fieldAt}
+use Rattle.rules.specs.declared.Technology.{Technology}
+use Rattle.rules.specs.declared.Variant.{Variant}
+use Rattle.rules.specs.declared.Direction.{Direction}
+use Rattle.rules.specs.declared.Execution.{Execution}
+use Rattle.rules.specs.Terms.{technologyOf, variantOf, directionOf, executionOf, plantAllowed, measureAllowed}
+use Rattle.rules.specs.Settle.{admitted}
+use Rattle.rules.proofs.Bounds.{nominal-within}
+use Rattle.terms.specs.declared.Admitted.the-variants.{With, Refused}
+use Rattle.terms.specs.Meanings.{admittedAnswer}
 
-module _ (plant : List ℕ) (allowed : plantAllowed plant ≡ true) (z : ℤ) (is : z ≡ fieldAt plant 16) where
-  in-range : (z ≡ pos (orZero z)) × (100000 ≤ orZero z) × (orZero z ≤ 1000000000)
-  unfolding plantAllowed
-  in-range =
-      within-natural 100000 1000000000 z
-      (ap isNominalPower is
-      ∙ both (leb 1 (byteAt plant 1) && leb (byteAt plant 1) 3 && (leb 1 (byteAt plant 2) && leb (byteAt plant 2) 2)) _ allowed .1)
+module _ (plant measure : List ℕ) where
+  pub admit-plant : plantAllowed plant ≡ false → Refused badPlant ≡ admittedAnswer (admitted plant measure)
+  unfolding admitted _>>_ require
+  admit-plant e = rw e
 
-  pub nominal-natural : z ≡ pos (orZero z)
-  nominal-natural = in-range .0
+  module _ (allowed : plantAllowed plant ≡ true) where
+    pub admit-measure : measureAllowed plant measure ≡ false → Refused badMeasure ≡ admittedAnswer (admitted plant measure)
+    unfolding admitted _>>_ require
+    admit-measure e = rw (allowed, e)
 
-  pub nominal-is : (n : ℕ) → n ≡ orZero z → (n ≡ nominalPower plant) × (n ≤ 1000000000)
-  nominal-is n e = (e ∙ ap orZero is, let r = in-range in omega arith)
+    pub admit-both : measureAllowed plant measure ≡ true → {t : Technology} {v : Variant} {pn : ℤ} {d : Direction} {x : Execution}
+        → t ≡ technologyOf plant → v ≡ variantOf plant → pn ≡ fieldAt plant 16 → d ≡ directionOf measure → x ≡ executionOf measure
+        → With (record { technology = t; variant = v; nominal = record { 0 = pn }; direction = d; execution = x }) ≡ admittedAnswer (admitted plant measure)
+    unfolding admitted _>>_ require
+    admit-both e et ev ep ed ex = rw (allowed, e, et, ev, ed, ex, ep) (rw (← nominal-within plant allowed .0))

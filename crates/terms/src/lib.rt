@@ -1,17 +1,28 @@
-// The terms of a plant, from its record's own 32 bytes (document 01, 'The archive').
+// The terms of a measure: what its plant and it say, from their own 32 bytes each, read once (document 01, 'The archive').
 ghost use mathlib.Core.Path.{_≡_};
-ghost use mathlib.Core.Bool.{true};
-ghost use Prim.Native.Nat.{_≤_};
-ghost use lib.IntN.{pos};
 ghost use lib.ListN.{length};
-ghost use Rattle.rules.specs.Terms.{technologyOf, variantOf, nominalPower, plantAllowed, directionOf, executionOf, measureAllowed};
+ghost use Rattle.rules.specs.Terms.{technologyOf, variantOf, plantAllowed, directionOf, executionOf, measureAllowed};
+ghost use Rattle.rules.specs.Settle.{admitted};
+ghost use Rattle.terms.specs.Meanings.{admittedAnswer};
+use rules::refusal;
 use rules::Direction;
 use rules::Execution;
 use rules::Technology;
 use rules::Variant;
 use units::Watt;
 
-pub fn technology_of(plant: &[u8]) -> Technology
+// Handed on as one value; nothing of plant and measure is read again.
+pub struct Terms {
+    pub technology: Technology,
+    pub variant: Variant,
+    pub nominal: Watt,
+    pub direction: Direction,
+    pub execution: Execution,
+}
+
+// ---- plant
+
+fn technology_of(plant: &[u8]) -> Technology
     requires { ⌜ length (now plant) ≡ 32 ⌝ }
     ensures { λ r. ⌜ r ≡ technologyOf (now (plant .entry)) ⌝ }
 {
@@ -24,7 +35,7 @@ pub fn technology_of(plant: &[u8]) -> Technology
     Technology::Other
 }
 
-pub fn variant_of(plant: &[u8]) -> Variant
+fn variant_of(plant: &[u8]) -> Variant
     requires { ⌜ length (now plant) ≡ 32 ⌝ }
     ensures { λ r. ⌜ r ≡ variantOf (now (plant .entry)) ⌝ }
 {
@@ -35,7 +46,7 @@ pub fn variant_of(plant: &[u8]) -> Variant
 }
 
 // What refusal 6 tests, in every technology and variant.
-pub fn plant_allowed(plant: &[u8]) -> bool
+fn plant_allowed(plant: &[u8]) -> bool
     requires { ⌜ length (now plant) ≡ 32 ⌝ }
     ensures { λ r. ⌜ r ≡ plantAllowed (now (plant .entry)) ⌝ }
 {
@@ -56,17 +67,9 @@ pub fn plant_allowed(plant: &[u8]) -> bool
     units::is_nominal_power(record::watt_at(plant, 16))
 }
 
-// Pn of a plant that refusal 6 lets pass.
-pub fn nominal_power(plant: &[u8]) -> Watt
-    requires { ⌜ (length (now plant) ≡ 32) × (plantAllowed (now plant) ≡ true) ⌝ }
-    ensures { λ r. ⌜ (r .0 ≡ pos (nominalPower (now (plant .entry)))) × (nominalPower (now (plant .entry)) ≤ 1000000000) ⌝ }
-{
-    record::watt_at(plant, 16)
-}
+// ---- measure
 
-// The terms of a measure, from its record's own 32 bytes and its plant's (document 01, 'The archive').
-
-pub fn direction_of(measure: &[u8]) -> Direction
+fn direction_of(measure: &[u8]) -> Direction
     requires { ⌜ length (now measure) ≡ 32 ⌝ }
     ensures { λ r. ⌜ r ≡ directionOf (now (measure .entry)) ⌝ }
 {
@@ -76,7 +79,7 @@ pub fn direction_of(measure: &[u8]) -> Direction
     Direction::Negative
 }
 
-pub fn execution_of(measure: &[u8]) -> Execution
+fn execution_of(measure: &[u8]) -> Execution
     requires { ⌜ length (now measure) ≡ 32 ⌝ }
     ensures { λ r. ⌜ r ≡ executionOf (now (measure .entry)) ⌝ }
 {
@@ -90,7 +93,7 @@ pub fn execution_of(measure: &[u8]) -> Execution
 }
 
 // What refusal 7 tests; positive redispatch exists for technology 3 only.
-pub fn measure_allowed(plant: &[u8], measure: &[u8]) -> bool
+fn measure_allowed(plant: &[u8], measure: &[u8]) -> bool
     requires { ⌜ (length (now plant) ≡ 32) × (length (now measure) ≡ 32) ⌝ }
     ensures { λ r. ⌜ r ≡ measureAllowed (now (plant .entry)) (now (measure .entry)) ⌝ }
 {
@@ -112,4 +115,36 @@ pub fn measure_allowed(plant: &[u8], measure: &[u8]) -> bool
         return true;
     }
     plant[1] == 3
+}
+
+// ---- both
+
+pub enum Admitted {
+    With(Terms),
+    Refused(u64),
+}
+
+// 6, then 7.
+pub fn admit(plant: &[u8], measure: &[u8]) -> Admitted
+    requires { ⌜ (length (now plant) ≡ 32) × (length (now measure) ≡ 32) ⌝ }
+    ensures { λ r. ⌜ r ≡ admittedAnswer (admitted (now (plant .entry)) (now (measure .entry))) ⌝ }
+{
+    if !plant_allowed(plant) {
+        return Admitted::Refused(refusal::BAD_PLANT);
+    }
+    if !measure_allowed(plant, measure) {
+        return Admitted::Refused(refusal::BAD_MEASURE);
+    }
+    let technology = technology_of(plant);
+    let variant = variant_of(plant);
+    let nominal = record::watt_at(plant, 16);
+    let direction = direction_of(measure);
+    let execution = execution_of(measure);
+    Admitted::With(Terms {
+        technology,
+        variant,
+        nominal,
+        direction,
+        execution,
+    })
 }

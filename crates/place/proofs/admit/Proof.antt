@@ -1,110 +1,78 @@
-use borrow.Author.Tests.{not-true, not-false}
-use Rattle.rules.proofs.Parts.{start-fits, end-fits, end-within, start-end, part-size}
-use Rattle.place.proofs.Laws.{plant-tested, measure-tested, admit-plant, admit-measure, admit-both}
+-- `place::admit` meets its contract.
+use Rattle.place.proofs.Laws.{not-admitted, admitted-with}
+use borrow.Author.Needs.{needs}
 use Rattle.place.proofs.admit.Statement.{statement}
 use Rattle.place.proofs.admit.Tie as tie
 
-mul-plant-allowed : tie.Need-mul-plant-allowed
-mul-plant-allowed c = start-fits (c .before .pre .plant-used) (c .before .pre .few)
+mul-admit : tie.Need-mul-admit
+mul-admit c = search needs
 
-mul-plant-allowed-2 : tie.Need-mul-plant-allowed-2
-mul-plant-allowed-2 c = start-fits (c .before .pre .plant-used) (c .before .pre .few)
+mul-admit-2 : tie.Need-mul-admit-2
+mul-admit-2 c = search needs
 
-add-plant-allowed : tie.Need-add-plant-allowed
-add-plant-allowed c = end-fits (c .before .pre .plant-used) (c .before .pre .few)
+add-admit : tie.Need-add-admit
+add-admit c = search needs
 
-sub-plant-allowed : tie.Need-sub-plant-allowed
-sub-plant-allowed c = start-end _
+sub-admit : tie.Need-sub-admit
+sub-admit c = search needs
 
-part-plant-allowed-start : tie.Need-part-plant-allowed-start
-part-plant-allowed-start c = start-end _
+part-admit-start : tie.Need-part-admit-start
+part-admit-start c = search needs
 
-part-plant-allowed-end : tie.Need-part-plant-allowed-end
-part-plant-allowed-end c = end-within (c .before .pre .plant-used) (c .before .pre .room)
+part-admit-end : tie.Need-part-admit-end
+part-admit-end c = search needs
 
-plant-allowed-requires : tie.Need-plant-allowed-requires
-plant-allowed-requires c κs = part-size _ (c .plant-allowed-arg .given .2)
+mul-admit-3 : tie.Need-mul-admit-3
+mul-admit-3 c = search needs
 
-mul-measure-allowed : tie.Need-mul-measure-allowed
-mul-measure-allowed c = start-fits (c .before .before .before .pre .plant-used) (c .before .before .before .pre .few)
+mul-admit-4 : tie.Need-mul-admit-4
+mul-admit-4 c = search needs
 
-mul-measure-allowed-2 : tie.Need-mul-measure-allowed-2
-mul-measure-allowed-2 c = start-fits (c .before .before .before .pre .plant-used) (c .before .before .before .pre .few)
+add-admit-2 : tie.Need-add-admit-2
+add-admit-2 c = search needs
 
-add-measure-allowed : tie.Need-add-measure-allowed
-add-measure-allowed c = end-fits (c .before .before .before .pre .plant-used) (c .before .before .before .pre .few)
+sub-admit-2 : tie.Need-sub-admit-2
+sub-admit-2 c = search needs
 
-sub-measure-allowed : tie.Need-sub-measure-allowed
-sub-measure-allowed c = start-end _
+part-admit-start-2 : tie.Need-part-admit-start-2
+part-admit-start-2 c = search needs
 
-part-measure-allowed-start : tie.Need-part-measure-allowed-start
-part-measure-allowed-start c = start-end _
+part-admit-end-2 : tie.Need-part-admit-end-2
+part-admit-end-2 c = search needs
 
-part-measure-allowed-end : tie.Need-part-measure-allowed-end
-part-measure-allowed-end c = end-within (c .before .before .before .pre .plant-used) (c .before .before .before .pre .room)
+admit-requires : tie.Need-admit-requires
+admit-requires c κs = search needs
 
-mul-measure-allowed-3 : tie.Need-mul-measure-allowed-3
-mul-measure-allowed-3 c = start-fits (c .before .before .before .before .pre .measure-used) (c .before .before .before .before .pre .few)
+enum-known-admitted : tie.Need-enum-known-admitted
+enum-known-admitted c = search needs
 
-mul-measure-allowed-4 : tie.Need-mul-measure-allowed-4
-mul-measure-allowed-4 c = start-fits (c .before .before .before .before .pre .measure-used) (c .before .before .before .before .pre .few)
-
-add-measure-allowed-2 : tie.Need-add-measure-allowed-2
-add-measure-allowed-2 c = end-fits (c .before .before .before .before .pre .measure-used) (c .before .before .before .before .pre .few)
-
-sub-measure-allowed-2 : tie.Need-sub-measure-allowed-2
-sub-measure-allowed-2 c = start-end _
-
-part-measure-allowed-start-2 : tie.Need-part-measure-allowed-start-2
-part-measure-allowed-start-2 c = start-end _
-
-part-measure-allowed-end-2 : tie.Need-part-measure-allowed-end-2
-part-measure-allowed-end-2 c = end-within (c .before .before .before .before .pre .measure-used) (c .before .before .before .before .pre .room)
-
-measure-allowed-requires : tie.Need-measure-allowed-requires
-measure-allowed-requires c κs = (part-size _ (c .before .measure-allowed-arg .given .2), part-size _ (c .measure-allowed-arg2 .given .2))
+enum-known-admitted-2 : tie.Need-enum-known-admitted-2
+enum-known-admitted-2 c = search needs
 
 returns : tie.Need-returns
-returns c = let a = c .before .before .before .before .before .before .before .args in
-    admit-plant (a .archive .now) (a .place)
-    (plant-tested (a .archive .now) (a .place .plant) _ _ (c .before .before .before .before .plant-allowed .ensures) (not-true _ (c .if1 .taken)))
+returns c = let a = c .before .before .before .before .before .before .before .args in not-admitted (a .archive .now) (a .used) (a .plant) (a .measure) (a .links) _ (c .before .before .before .admit .ensures) _ (c .before .admitted .given .1)
 
 returns-2 : tie.Need-returns-2
-returns-2 c = let a = c .before .before .before .before .before .before .before .before .args in
-    admit-measure (a .archive .now) (a .place)
-    (plant-tested (a .archive .now) (a .place .plant) _ _ (c .before .before .before .before .before .plant-allowed .ensures) (not-false _ (c .before .if1 .left)))
-    (measure-tested (a .archive .now) (a .place .plant) (a .place .measure) _ _ (c .before .before .measure-allowed .ensures) (not-true _ (c .if2 .taken)))
-
-returns-3 : tie.Need-returns-3
-returns-3 c = let a = c .before .before .before .before .before .before .before .before .args in
-    admit-both (a .archive .now) (a .place)
-    (plant-tested (a .archive .now) (a .place .plant) _ _ (c .before .before .before .before .before .plant-allowed .ensures) (not-false _ (c .before .if1 .left)))
-    (measure-tested (a .archive .now) (a .place .plant) (a .place .measure) _ _ (c .before .before .measure-allowed .ensures) (not-false _ (c .if2 .left)))
+returns-2 c = let a = c .before .before .before .before .before .before .before .args in admitted-with (a .archive .now) (a .used) (a .plant) (a .measure) (a .links) _ (c .before .before .before .admit .ensures) _ (c .before .admitted2 .given .1)
 
 pub admit-spec : {M : Type 1} → statement M
 admit-spec =
     tie.close
     (tie.spec
-    mul-plant-allowed
-    mul-plant-allowed-2
-    add-plant-allowed
-    sub-plant-allowed
-    part-plant-allowed-start
-    part-plant-allowed-end
-    plant-allowed-requires
-    mul-measure-allowed
-    mul-measure-allowed-2
-    add-measure-allowed
-    sub-measure-allowed
-    part-measure-allowed-start
-    part-measure-allowed-end
-    mul-measure-allowed-3
-    mul-measure-allowed-4
-    add-measure-allowed-2
-    sub-measure-allowed-2
-    part-measure-allowed-start-2
-    part-measure-allowed-end-2
-    measure-allowed-requires
+    mul-admit
+    mul-admit-2
+    add-admit
+    sub-admit
+    part-admit-start
+    part-admit-end
+    mul-admit-3
+    mul-admit-4
+    add-admit-2
+    sub-admit-2
+    part-admit-start-2
+    part-admit-end-2
+    admit-requires
+    enum-known-admitted
+    enum-known-admitted-2
     returns
-    returns-2
-    returns-3)
+    returns-2)
