@@ -1,1 +1,2 @@
 pub mod Owned
+pub mod Powers

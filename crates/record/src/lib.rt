@@ -4,6 +4,7 @@ ghost use Prim.Native.Nat.{_+_, _*_, _^_, _≤_, _<_};
 ghost use lib.ListN.{length};
 ghost use Rattle.rules.specs.Archive.{linkAt, fieldAt, recordAt, kindOf};
 ghost use Rattle.rules.specs.Links.{isKind, ownedBy};
+ghost use Rattle.record.specs.Powers.{PowerOf};
 ghost use Rattle.record.specs.Owned.{ownedLinks};
 use rules::kind;
 use units::Watt;
@@ -80,4 +81,23 @@ pub fn owned_by(r: &[u8]) -> Owned
         return Owned::Two(kind::BEFORE, kind::QUARTER);
     }
     Owned::None
+}
+
+// ---- powers
+
+pub enum Power {
+    Of(Watt),
+    OutOfRange,
+}
+
+// Measured power, limit or plan, in its range.
+pub fn power_at(r: &[u8], at: usize) -> Power
+    requires { ⌜ at + 4 ≤ length (now r) ⌝ }
+    ensures { λ p. ⌜ PowerOf (fieldAt (now (r .entry)) at) p ⌝ }
+{
+    let power = watt_at(r, at);
+    if !units::in_power_range(power) {
+        return Power::OutOfRange;
+    }
+    Power::Of(power)
 }

@@ -44,20 +44,13 @@ pick-small : (t : Bool) (a b : ℤ) (n : ℕ) → mag a ≤ n → mag b ≤ n �
 pick-small true a b n h k = h
 pick-small false a b n h k = k
 
-limitation-small : (s : Direction) (x : Execution) (q : Quarter) → limitReadable x q ≡ true → mag (limitation s x (q .measured) (q .limit)) ≤ 1000000000
-unfolding limitation smaller larger
-limitation-small s tolerated q e = power-small (q .measured) e
-limitation-small s fixed q e = power-small (q .measured) e
-limitation-small positive requested q e =
-    let b = both (isPower (q .measured)) (isPower (q .limit)) e in
-    pick-small (leZ (q .measured) (q .limit)) _ _ _ (power-small (q .measured) (b .0)) (power-small (q .limit) (b .1))
-limitation-small negative requested q e =
-    let b = both (isPower (q .measured)) (isPower (q .limit)) e in
-    pick-small (leZ (q .measured) (q .limit)) _ _ _ (power-small (q .limit) (b .1)) (power-small (q .measured) (b .0))
-
 -- nor is L
-pub limit-small : (terms : Terms) (q : Quarter) → limitReadable (terms .execution) q ≡ true → mag (limitOf terms q) ≤ 1000000000
-limit-small terms q e = limitation-small (terms .direction) (terms .execution) q e
+pub limit-small : (s : Direction) (x : Execution) (measured limit : ℤ) → limitReadable x measured limit ≡ true → mag (limitation s x measured limit) ≤ 1000000000
+unfolding limitation smaller larger
+limit-small s tolerated m l e = power-small m e
+limit-small s fixed m l e = power-small m e
+limit-small positive requested m l e = let b = both (isPower m) (isPower l) e in pick-small (leZ m l) m l _ (power-small m (b .0)) (power-small l (b .1))
+limit-small negative requested m l e = let b = both (isPower m) (isPower l) e in pick-small (leZ m l) l m _ (power-small l (b .1)) (power-small m (b .0))
 
 -- no factor is above 1
 pub factor-small : (month q : ℕ) → plantFactor month q ≤ 10000
@@ -176,8 +169,9 @@ magnitude-bound s d t l ht hl some = go s
 pub exact-small : (terms : Terms) (r : Reference) (q : Quarter) → Bounded r → readable terms r q ≡ true → exactOf terms r q ≤ 200000000000000 * denominator r
 unfolding exactOf
 exact-small terms r q h e =
-    let b = both (limitReadable (terms .execution) q) (referenceReadable r q) e in
-    magnitude-bound (terms .direction) (denominator r) _ _ (numerator-small r q h (b .1) .near) (limit-small terms q (b .0)) (denominator-bounded r h .some)
+    let b = both (limitReadable (terms .execution) (q .measured) (q .limit)) (referenceReadable r q) e in
+    magnitude-bound (terms .direction) (denominator r) _ _ (numerator-small r q h (b .1) .near)
+    (limit-small (terms .direction) (terms .execution) (q .measured) (q .limit) (b .0)) (denominator-bounded r h .some)
 
 -- ---- lists
 

@@ -161,14 +161,14 @@ referenceReadable (onIrradiance a b) q = isIrradiance (q .weather)
 referenceReadable (byFactor pn) q = leb 1 (q .month) && leb (q .month) 12 && leb (q .quarterOfDay) 95
 referenceReadable asPlanned q = isPower (q .planned)
 
--- the fields that L needs are in range
-abbrev pub limitReadable : Execution → Quarter → Bool
-limitReadable requested q = isPower (q .measured) && isPower (q .limit)
-limitReadable tolerated q = isPower (q .measured)
-limitReadable fixed q = isPower (q .measured)
+-- the fields that L needs, measured power and limit, are in range
+abbrev pub limitReadable : Execution → ℤ → ℤ → Bool
+limitReadable requested measured limit = isPower measured && isPower limit
+limitReadable tolerated measured limit = isPower measured
+limitReadable fixed measured limit = isPower measured
 
 abbrev pub readable : Terms → Reference → Quarter → Bool
-readable terms reference q = limitReadable (terms .execution) q && referenceReadable reference q
+readable terms reference q = limitReadable (terms .execution) (q .measured) (q .limit) && referenceReadable reference q
 
 unfoldable pub quartersOf : List ℕ → Place → Basis → Outcome (List Quarter)
 quartersOf archive place basis = do

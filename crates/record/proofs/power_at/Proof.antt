@@ -1,9 +1,9 @@
--- `limits::power_of` meets its contract. Assumes nothing.
+-- `record::power_at` meets its contract.
 use Rattle.rules.specs.Terms.{isPower}
-use Rattle.limits.proofs.Limits.{out-of-range, in-range}
+use Rattle.record.proofs.Powers.{out-of-range, in-range}
 use borrow.Author.Needs.{needs}
-use Rattle.limits.proofs.power_of.Statement.{statement}
-use Rattle.limits.proofs.power_of.Tie as tie
+use Rattle.record.proofs.power_at.Statement.{statement}
+use Rattle.record.proofs.power_at.Tie as tie
 
 watt-at-requires : tie.Need-watt-at-requires
 watt-at-requires c κs = search needs
@@ -17,5 +17,5 @@ returns c = out-of-range isPower (c .before .in-power-range .ensures) (c .before
 returns-2 : tie.Need-returns-2
 returns-2 c = (in-range isPower (c .before .in-power-range .ensures) (c .before .before .watt-at .ensures) (c .if1 .left), c .before .before .watt-at .ensures)
 
-pub power-of-spec : {M : Type 1} → statement M
-power-of-spec = tie.close (tie.spec watt-at-requires in-power-range-requires returns returns-2)
+pub power-at-spec : {M : Type 1} → statement M
+power-at-spec = tie.close (tie.spec watt-at-requires in-power-range-requires returns returns-2)
