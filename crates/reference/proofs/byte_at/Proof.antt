@@ -1,8 +1,8 @@
--- `exact::byte_at` meets its contract. Assumes nothing.
+-- `reference::byte_at` meets its contract.
 use native.Mathlib.Omega.{arith}
 use borrow.Author.Needs.{needs}
-use Rattle.exact.proofs.byte_at.Statement.{statement}
-use Rattle.exact.proofs.byte_at.Tie as tie
+use Rattle.reference.proofs.byte_at.Statement.{statement}
+use Rattle.reference.proofs.byte_at.Tie as tie
 
 shared-slice-read-result : tie.Need-shared-slice-read-result
 shared-slice-read-result c = search needs

@@ -1,0 +1,92 @@
+-- What holds of a reference in range, by the variant that the code was told.
+use mathlib.Core.Path.{_≡_, refl, sym, ap, subst}
+use mathlib.Core.List.{List}
+use Prim.Native.Nat.{ℕ, _≤_, _<_}
+use native.Mathlib.Omega.{arith}
+use lib.IntN.{ℤ, pos}
+use lib.Signed.{mag}
+use Rattle.rules.specs.Numbers.{orZero}
+use Rattle.rules.specs.Reference as book
+use Rattle.rules.proofs.Bounds as bounds
+use Rattle.units.specs.declared.Watt.{Watt}
+use Rattle.units.specs.declared.Irradiance.{Irradiance}
+use Rattle.curve.specs.declared.Curve.{Curve}
+use Rattle.curve.specs.Tables.{Tabulates}
+use Rattle.reference.specs.declared.Reference.{Reference}
+use Rattle.reference.specs.declared.Reference.the-variants.{OnCurve, LastMeasured, OnIrradiance, ByFactor, AsPlanned}
+use Rattle.reference.specs.References.{Means, held, UpTo, Bounded, Held, Divides}
+
+pub up-to-small : {n : ℕ} {z : ℤ} → UpTo n z → mag z ≤ n
+up-to-small {n} h = subst (λ (y : ℤ). mag y ≤ n) (sym (h .is)) (h .low)
+
+-- ---- the rule book's bounds and the code's
+
+-- what stands for a reference in range is in range, and the other way round
+pub means-bounded : (r : Reference) (powers : List ℕ) (ref : book.Reference) → Means r powers ref → Bounded r → bounds.Bounded ref
+means-bounded (OnCurve a b pn curve) powers ref m h = rw (m .is) (record {
+  natural = h .a-low .is;
+  a-low = h .a-low .low;
+  some = h .some;
+  b-low = h .b-low .low;
+  pn-low = h .pn-low .low;
+})
+means-bounded (LastMeasured p0) powers ref m h = rw m h
+means-bounded (OnIrradiance a b) powers ref m h = rw m h
+means-bounded (ByFactor pn) powers ref m h = rw m (h .low)
+means-bounded AsPlanned powers ref m h = rw m tt
+
+pub held-bounded : (curve : Curve) (ref : book.Reference) → bounds.Bounded ref → Bounded (held curve ref)
+held-bounded curve (book.onCurve a b pn points) h = record {
+  a-low = record { is = h .natural; low = h .a-low };
+  b-low = record { is = refl; low = h .b-low };
+  some = h .some;
+  pn-low = record { is = refl; low = h .pn-low };
+}
+held-bounded curve (book.lastMeasured p0) h = h
+held-bounded curve (book.onIrradiance a b) h = h
+held-bounded curve (book.byFactor pn) h = record { is = refl; low = h }
+held-bounded curve book.asPlanned h = tt
+
+-- the curve whose powers are lent is that of the reference's points
+abbrev pub Tabled : Curve → List ℕ → book.Reference → Type 0
+Tabled curve powers (book.onCurve a b pn points) = Tabulates curve powers points
+Tabled curve powers (book.lastMeasured p0) = Unit {0}
+Tabled curve powers (book.onIrradiance a b) = Unit {0}
+Tabled curve powers (book.byFactor pn) = Unit {0}
+Tabled curve powers book.asPlanned = Unit {0}
+
+pub held-means : (curve : Curve) (powers : List ℕ) (ref : book.Reference) → Tabled curve powers ref → Means (held curve ref) powers ref
+held-means curve powers (book.onCurve a b pn points) t = record { points = points; is = refl; tabulates = t }
+held-means curve powers (book.lastMeasured p0) t = refl
+held-means curve powers (book.onIrradiance a b) t = refl
+held-means curve powers (book.byFactor pn) t = refl
+held-means curve powers book.asPlanned t = refl
+
+-- ---- by the variant that the code was told
+
+pub bounded-told : {r x : Reference} → r ≡ x → Bounded r → Bounded x
+bounded-told e h = subst Bounded e h
+
+pub held-told : {r x : Reference} {powers : List ℕ} → r ≡ x → Held r powers → Held x powers
+held-told {powers} e h = subst (λ (y : Reference). Held y powers) e h
+
+module _ {r : Reference} (h : Bounded r) where
+  pub divides-curve : {a b pn : Watt} {curve : Curve} {d : ℕ} → r ≡ OnCurve a b pn curve → d ≡ orZero (b .0) → Divides r d
+  divides-curve {a} {b} {pn} {curve} {d} e f =
+      let k = bounded-told e h in
+      subst (λ (x : Reference). Divides x d) (sym e)
+      (record { is = λ powers ref m. rw (m .is) f; some = omega (arith, k .some, f); small = omega (arith, k .b-low .low, f) })
+
+  pub divides-last : {p0 : Watt} → r ≡ LastMeasured p0 → Divides r 1
+  divides-last e = subst (λ (x : Reference). Divides x 1) (sym e) (record { is = λ powers ref m. rw m; some = omega arith; small = omega arith })
+
+  pub divides-irradiance : {a : Watt} {b : Irradiance} → r ≡ OnIrradiance a b → Divides r (b .0)
+  divides-irradiance {a} {b} e =
+      let k = bounded-told e h in
+      subst (λ (x : Reference). Divides x (b .0)) (sym e) (record { is = λ powers ref m. rw m; some = k .some; small = omega (arith, k .b-low) })
+
+  pub divides-factor : {pn : Watt} → r ≡ ByFactor pn → Divides r 10000
+  divides-factor e = subst (λ (x : Reference). Divides x 10000) (sym e) (record { is = λ powers ref m. rw m; some = omega arith; small = omega arith })
+
+  pub divides-planned : r ≡ AsPlanned → Divides r 1
+  divides-planned e = subst (λ (x : Reference). Divides x 1) (sym e) (record { is = λ powers ref m. rw m; some = omega arith; small = omega arith })
