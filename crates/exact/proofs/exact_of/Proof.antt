@@ -1,21 +1,21 @@
--- `exact::exact_of` meets its contract. Assumes nothing.
+-- `exact::exact_of` meets its contract.
 use mathlib.Core.Path.{sym, ap, subst, _∙_}
-use mathlib.Core.List.{[]}
 use Prim.Native.Nat.{_≤_}
 use native.Mathlib.Omega.{arith}
 use lib.IntN.{ℤ}
 use lib.Signed.{mag}
+use Rattle.rules.specs.Terms.{quarterOf}
 use Rattle.rules.specs.Reference.{magnitude}
 use Rattle.units.proofs.Laws.{back}
-use Rattle.rules.specs.Terms.{quarterOf}
-use Rattle.energy.specs.References.{meaning}
-use Rattle.exact.proofs.Exacts.{exact-unlimited, exact-unreferred, limited-small, told-small, exact-is}
+use Rattle.terms.specs.Meanings.{meaning}
+use Rattle.reference.proofs.References.{means-bounded}
+use Rattle.exact.proofs.Exacts.{exact-unlimited, exact-unreferred, limited-small, referred-small, exact-is}
 use borrow.Author.Needs.{needs}
 use Rattle.exact.proofs.exact_of.Statement.{statement}
 use Rattle.exact.proofs.exact_of.Tie as tie
 
-limitation-of-requires : tie.Need-limitation-of-requires
-limitation-of-requires c κs = search needs
+limit-of-requires : tie.Need-limit-of-requires
+limit-of-requires c κs = search needs
 
 enum-known-l : tie.Need-enum-known-l
 enum-known-l c = search needs
@@ -24,8 +24,11 @@ enum-told : tie.Need-enum-told
 enum-told c = search needs
 
 returns : tie.Need-returns
-returns c = let a = c .before .before .before .before .before .args in
-    λ points measure index t. exact-unlimited (a .direction) (a .execution) (meaning (a .reference) points) (quarterOf measure index (a .r .now)) (c .enum-told .given .1) (c .before .before .limitation-of .ensures measure index)
+unfolding quarterOf
+returns c = let s = c .before .before .before .before .before in
+    let a = s .args in
+    let q = quarterOf (meaning (a .terms)) (a .index) (a .r .now) in
+    λ ref m. exact-unlimited (meaning (a .terms)) ref q (c .enum-told .given .1) (c .before .before .limit-of .ensures)
 
 numerator-of-requires : tie.Need-numerator-of-requires
 numerator-of-requires c κs = search needs
@@ -37,31 +40,50 @@ enum-told-2 : tie.Need-enum-told-2
 enum-told-2 c = search needs
 
 returns-2 : tie.Need-returns-2
-returns-2 c = let a = c .before .before .before .before .before .before .before .before .before .args in
-    λ points measure index t. exact-unreferred (a .direction) (a .execution) (meaning (a .reference) points) (quarterOf measure index (a .r .now)) (c .before .before .before .before .l .given .1) (c .before .before .before .before .before .before .limitation-of .ensures measure index)
-    (c .enum-told2 .given .1) (c .before .before .numerator-of .ensures points measure index t)
+unfolding quarterOf
+returns-2 c = let s = c .before .before .before .before .before .before .before .before .before in
+    let a = s .args in
+    let q = quarterOf (meaning (a .terms)) (a .index) (a .r .now) in
+    λ ref m. exact-unreferred (meaning (a .terms)) ref q (c .before .before .before .before .l .given .1) (c .before .before .before .before .before .before .limit-of .ensures) (c .enum-told2 .given .1) (c .before .before .numerator-of .ensures ref m)
 
 denominator-requires : tie.Need-denominator-requires
 denominator-requires c κs = search needs
 
 magnitude-requires : tie.Need-magnitude-requires
-magnitude-requires c κs =
-    let a = c .before .before .before .before .before .before .before .before .before .before .before .args in
-    let points = c .before .before .before .before .before .before .before .before .before .before .before .pre .1 .0 .0 in
-    let t = told-small (a .reference) points (quarterOf [] 0 (a .r .now)) (c .before .before .t .given .1) (c .before .before .before .before .numerator-of .ensures points [] 0 (c .before .before .before .before .before .before .before .before .before .before .before .pre .1 .0 .1)) (c .before .before .before .before .before .before .before .before .before .before .before .pre .0) in
-    (c .denominator .ensures .small, subst (λ (z : ℤ). mag z ≤ 4000000000000000000) (sym (back (c .before .before .t .given .0 .0) (omega (arith, t .fits)))) (t .fits), limited-small (a .direction) (a .execution) (meaning (a .reference) points) (quarterOf [] 0 (a .r .now)) (c .before .before .before .before .before .before .l .given .1) (c .before .before .before .before .before .before .before .before .limitation-of .ensures [] 0))
+unfolding quarterOf
+magnitude-requires c κs = let s = c .before .before .before .before .before .before .before .before .before .before .before in
+    let a = s .args in
+    let q = quarterOf (meaning (a .terms)) (a .index) (a .r .now) in
+    let h = s .pre .0 in
+    let b = means-bounded (a .reference) (a .powers .now) (h .ref) (h .means) (h .bounded) in
+    let t = referred-small (meaning (a .terms)) (h .ref) q (c .before .before .before .before .before .before .l .given .1) (c .before .before .before .before .before .before .before .before .limit-of .ensures) (c .before .before .t .given .1) (c .before .before .before .before .numerator-of .ensures (h .ref) (h .means)) b in
+    record {
+      divisor = c .denominator .ensures .small;
+      reference = subst (λ (z : ℤ). mag z ≤ 4000000000000000000) (sym (back (c .before .before .t .given .0 .0) (omega (arith, t)))) t;
+      limit = limited-small (meaning (a .terms)) (h .ref) q (c .before .before .before .before .before .before .l .given .1) (c .before .before .before .before .before .before .before .before .limit-of .ensures);
+    }
 
 returns-3 : tie.Need-returns-3
-returns-3 c = let a = c .before .before .before .before .before .before .before .before .before .before .before .before .args in
-    λ points measure index t. exact-is (a .direction) (a .execution) (meaning (a .reference) points) (quarterOf measure index (a .r .now)) (c .before .before .before .before .before .before .before .l .given .1) (c .before .before .before .before .before .before .before .before .before .limitation-of .ensures measure index)
-    (c .before .before .before .t .given .1) (c .before .before .before .before .before .numerator-of .ensures points measure index t) (c .before .denominator .ensures .is points)
-    (c .magnitude .ensures ∙ ap (λ (z : ℤ). magnitude (a .direction) (c .before .denominator .result) z (c .before .before .before .before .before .before .before .l .given .0 .0 .0)) (back (c .before .before .before .t .given .0 .0) (omega (arith, told-small (a .reference) points (quarterOf measure index (a .r .now)) (c .before .before .before .t .given .1) (c .before .before .before .before .before .numerator-of .ensures points measure index t) (c .before .before .before .before .before .before .before .before .before .before .before .before .pre .0) .fits))))
+unfolding quarterOf
+returns-3 c = let s = c .before .before .before .before .before .before .before .before .before .before .before .before in
+    let a = s .args in
+    let q = quarterOf (meaning (a .terms)) (a .index) (a .r .now) in
+    let l = c .before .before .before .before .before .before .before .l .given in
+    let t = c .before .before .before .t .given in
+    let limited = c .before .before .before .before .before .before .before .before .before .limit-of .ensures in
+    λ ref m.
+    let b = means-bounded (a .reference) (a .powers .now) ref m (s .pre .0 .bounded) in
+    let referred = c .before .before .before .before .before .numerator-of .ensures ref m in
+    exact-is (meaning (a .terms)) ref q (l .1) limited (t .1) referred (c .before .denominator .ensures .is (a .powers .now) ref m)
+    (c .magnitude .ensures
+    ∙ ap (λ (z : ℤ). magnitude (a .terms .direction) (c .before .denominator .result) z (l .0 .0 .0))
+    (back (t .0 .0) (omega (arith, referred-small (meaning (a .terms)) ref q (l .1) limited (t .1) referred b))))
 
 pub exact-of-spec : {M : Type 1} → statement M
 exact-of-spec =
     tie.close
     (tie.spec
-    limitation-of-requires
+    limit-of-requires
     enum-known-l
     enum-told
     returns

@@ -1,7 +1,7 @@
--- `energy::exact::or_zero` meets its contract. Assumes nothing.
-use Rattle.energy.proofs.Laws.{below-zero, or-zero-cast, or-zero-is}
-use Rattle.energy.proofs.exact.or_zero.Statement.{statement}
-use Rattle.energy.proofs.exact.or_zero.Tie as tie
+-- `exact::or_zero` meets its contract.
+use Rattle.exact.proofs.Magnitudes.{below-zero, or-zero-cast, or-zero-is}
+use Rattle.exact.proofs.or_zero.Statement.{statement}
+use Rattle.exact.proofs.or_zero.Tie as tie
 
 cast-result : tie.Need-cast-result
 cast-result c = or-zero-cast (c .before .args .n) (c .before .fits .n .sfits) (c .if1 .left)

@@ -1,7 +1,7 @@
--- The limitation value by direction and execution, and the exact magnitude from signed numbers as the code holds them.
+-- The exact magnitude from signed numbers as the code holds them.
 use mathlib.Core.Path.{_≡_, refl, sym, ap, ap₂, _∙_, subst}
 use mathlib.Core.Bool.{true, false}
-use Prim.Native.Nat.{ℕ, _*_, _^_, _≤_, _<_}
+use Prim.Native.Nat.{ℕ, _^_, _<_}
 use native.Mathlib.Omega.{arith}
 use borrow.Author.Tests.{ltb-true}
 use lib.IntN.{ℤ, pos, negsuc, natAbs, _-ℤ_, _*ℤ_}
@@ -11,31 +11,12 @@ use mir.Val.{SFits, toZ}
 use mir.Facts.{toZ-pos, toZ-ofZ}
 use Rattle.rules.specs.declared.Direction.{Direction}
 use Rattle.rules.specs.declared.Direction.the-variants.{Positive as positive, Negative as negative}
-use Rattle.rules.specs.declared.Execution.{Execution}
-use Rattle.rules.specs.declared.Execution.the-variants.{Requested as requested, Tolerated as tolerated, Fixed as fixed}
-use Rattle.rules.specs.Numbers.{orZero, smaller, larger}
-use Rattle.rules.specs.Reference.{limitation, magnitude}
+use Rattle.rules.specs.Numbers.{orZero}
+use Rattle.rules.specs.Reference.{magnitude}
 use Rattle.rules.proofs.Ints.{mag-times, mag-minus}
 use Rattle.units.proofs.Laws.{held, back, IsUnsigned, natural-cast, natural-is}
-
--- ---- the limitation value
-
-module _ (s : Direction) (x : Execution) (m l : ℤ) where
-  pub limit-positive : x ≡ requested → s ≡ positive → smaller m l ≡ limitation s x m l
-  unfolding limitation
-  limit-positive asked e = rw (asked, e)
-
-  pub limit-negative : x ≡ requested → s ≡ negative → larger m l ≡ limitation s x m l
-  unfolding limitation
-  limit-negative asked e = rw (asked, e)
-
-  pub limit-tolerated : x ≡ tolerated → m ≡ limitation s x m l
-  unfolding limitation
-  limit-tolerated e = rw e
-
-  pub limit-fixed : x ≡ fixed → m ≡ limitation s x m l
-  unfolding limitation
-  limit-fixed e = rw e
+use Rattle.reference.proofs.Products.{times-fits, times-is}
+use Rattle.exact.specs.Exacts.{Room}
 
 -- ---- a number, or 0 if it is below 0
 
@@ -62,30 +43,21 @@ module _ (n : ℤ) (h : mag n < 2 ^ 63) where
     pub or-zero-is : natAbs (held n) ≡ orZero n
     or-zero-is = natural-is n h stays
 
--- ---- a product as the code makes it, of a number and one that is 0 or more
-
-module _ (a b x y : ℤ) (n ba bn : ℕ) (ex : x ≡ a) (ey : y ≡ b) (eb : b ≡ pos n) (ha : mag a < ba) (hn : n ≤ bn) (room : ba * bn < 2 ^ 63) where
-  pub times-fits : SFits w64 (x *ℤ y)
-  times-fits = subst (SFits w64) (sym (ap₂ _*ℤ_ ex (ey ∙ eb))) (record { sfits = omega (arith, mag-times a n ba bn ha hn) })
-
-  pub times-is : held (x *ℤ y) ≡ a *ℤ b
-  times-is = toZ-ofZ times-fits ∙ ap₂ _*ℤ_ ex ey
-
 -- ---- the exact magnitude: L × D, and its difference to T's numerator
 
-module _ (d : ℕ) (t l : ℤ) (d-small : d ≤ 4000000000) (t-small : mag t ≤ 4000000000000000000) (l-small : mag l ≤ 1000000000) where
+module _ (d : ℕ) (t l : ℤ) (room : Room d t l) where
   product-small : mag (l *ℤ pos d) < 4000000004000000001
-  product-small = mag-times l d 1000000001 4000000000 (omega arith) d-small
+  product-small = mag-times l d 1000000001 4000000000 (omega (arith, room .limit)) (room .divisor)
 
   pub product-fits : SFits w64 (held l *ℤ toZ w64 d)
-  product-fits = times-fits l (pos d) _ _ d 1000000001 4000000000 (back l (omega arith)) (toZ-pos w64 (omega arith)) refl (omega arith) d-small (omega arith)
+  product-fits = times-fits l (pos d) _ _ d 1000000001 4000000000 (back l (omega arith)) (toZ-pos w64 (omega arith)) refl (omega arith) (room .divisor) (omega arith)
 
   -- L × D as the code holds it
   abbrev limit : ℤ
   limit = held (held l *ℤ toZ w64 d)
 
   limit-is : limit ≡ l *ℤ pos d
-  limit-is = times-is l (pos d) _ _ d 1000000001 4000000000 (back l (omega arith)) (toZ-pos w64 (omega arith)) refl (omega arith) d-small (omega arith)
+  limit-is = times-is l (pos d) _ _ d 1000000001 4000000000 (back l (omega arith)) (toZ-pos w64 (omega arith)) refl (omega arith) (room .divisor) (omega arith)
 
   t-is : held t ≡ t
   t-is = back t (omega arith)
