@@ -2,7 +2,7 @@
 use mathlib.Core.Path.{_≡_, refl, sym, _∙_, ap}
 use mathlib.Core.Bool.{Bool, true, false, _&&_, and-true}
 use mathlib.Core.List.{List, [], _∷_, _++_, map, append-nil}
-use Prim.Native.Nat.{ℕ, suc, _+_, _*_, _-_, _/_, _^_, _≤_, _<_}
+use Prim.Native.Nat.{ℕ, suc, _+_, _*_, _/_, _^_, _≤_, _<_}
 use native.Mathlib.Numerals.{add-one}
 use native.Mathlib.Nat.{mul-le-mul-right, div-le-of-le-mul}
 use native.Mathlib.Omega.{arith}
@@ -10,34 +10,36 @@ use mir.Syntax.{w64}
 use mir.Val.{Fits}
 use borrow.Author.Tests.{leb-true}
 use lib.Dec.{leb}
-use lib.ListN.{length, take, drop, set, length-set}
+use lib.ListN.{length, take, set, length-set}
 use lib.Seq.{take-suc-set, append-snoc, set-out}
-use Rattle.rules.specs.declared.Direction.{Direction}
-use Rattle.rules.specs.declared.Execution.{Execution}
 use Rattle.rules.specs.Outcome.{Outcome, refused, given, _>>=_, _>>_, require}
 use Rattle.rules.specs.Refusals.{badCount, outOfRange}
 use Rattle.rules.specs.Numbers.{all, mapFrom}
-use Rattle.rules.specs.Archive.{recordAt, nextOf, Entry, chain, quarterKind, firstQuarter, entryAt}
-use Rattle.rules.specs.Terms.{Point, Quarter, quarterOf, directionOf, executionOf}
+use Rattle.rules.specs.Archive.{recordAt, nextOf, Entry, follow, quarterKind, firstQuarter}
+use Rattle.rules.specs.Terms.{Terms, Quarter, quarterOf}
 use Rattle.rules.specs.Reference as book
 use Rattle.rules.specs.Reference.{denominator, exactOf}
 use Rattle.rules.specs.Settle as settle
-use Rattle.rules.specs.Settle.{Basis, quarterChain, quartersRead, limitReadable, referenceReadable, readable, quartersOf}
-use Rattle.rules.proofs.Chains.{chain-ends, record-part}
+use Rattle.rules.specs.Settle.{Basis, quarterChain, quartersRead, readable, quartersOf}
+use Rattle.rules.proofs.Bounds as bounds
+use Rattle.rules.proofs.Bounds.{exact-small}
 use Rattle.rules.proofs.Inversion.{same-given}
 use Rattle.rules.proofs.Lists.{map-from-length, all-passed, all-weaker, sum-low}
 use Rattle.rules.proofs.Sound.{both}
-use Rattle.rules.proofs.Folds.{gathered, gatheredFrom, gather-turn, gather-refused, gather-done}
-use Rattle.chains.proofs.Laws.{Met, chain-met}
+use Rattle.rules.proofs.Folds.{gathered, gatheredFrom}
+use Rattle.chains.specs.declared.Link.{Link}
+use Rattle.chains.specs.Answers.{linkAnswer, refusalOf}
+use Rattle.chains.proofs.Laws.{Met, NoAt}
+use Rattle.chains.proofs.Walking.{Walking, walk-starts, walk-turns, walk-ends, walk-refused}
+use Rattle.terms.specs.Meanings.{meaning}
 use Rattle.place.specs.declared.Place.{Place}
 use Rattle.place.specs.Places.{meant}
-use Rattle.curve.specs.declared.Curve.{Curve}
-use Rattle.energy.specs.declared.reference.Reference.{Reference}
-use Rattle.energy.specs.References.{meaning, Bounded}
+use Rattle.reference.specs.declared.Reference.{Reference}
+use Rattle.reference.specs.References.{Means, Bounded}
+use Rattle.reference.proofs.References.{means-bounded}
 use Rattle.exact.specs.declared.Exact.{Exact}
 use Rattle.exact.specs.declared.Exact.the-variants as exact
-use Rattle.exact.specs.Exacts.{Curved, exactAnswer, quarterAnswer}
-use Rattle.exact.proofs.Exacts.{exact-small}
+use Rattle.exact.specs.Exacts.{exactAnswer, quarterAnswer}
 use Rattle.quarters.specs.declared.Walked.the-variants as walked
 use Rattle.quarters.specs.Walks.{isInRange, entered, WalkedBy, Walks}
 
@@ -50,30 +52,19 @@ pub record Gathered : Type 0 where
 abbrev pub state : ℕ → Bool → List ℕ → Gathered
 state count fine sheet = record { count = count; fine = fine; sheet = sheet }
 
-module _ (s : Direction) (x : Execution) (reference : book.Reference) (measure : List ℕ) where
+module _ (terms : Terms) (ref : book.Reference) where
   abbrev isReadable : Quarter → Bool
-  isReadable q = limitReadable x q && referenceReadable reference q
+  isReadable = readable terms ref
 
   abbrev pub exactAt : ℕ → List ℕ → Exact
-  exactAt index r = quarterAnswer s x reference (quarterOf measure index r)
+  exactAt index r = quarterAnswer terms ref (quarterOf terms index r)
 
   abbrev pub stepped : Gathered → Entry → Gathered
   stepped g e =
       state (g .count + 1) (isInRange (exactAt (g .count) (e .bytes)) && g .fine) (entered (g .sheet) (g .count) (exactAt (g .count) (e .bytes)))
 
   abbrev readFrom : ℕ → List Entry → List Quarter
-  readFrom count es = mapFrom (λ index e. quarterOf measure index (e .bytes)) count es
-
-  -- ---- a turn of the loop
-
-  turned : (archive : List ℕ) (used holder l n next count : ℕ) (fine fine′ : Bool) (sheet sheet′ : List ℕ) (magnitude : Exact)
-      → Met archive used quarterKind holder l n → next ≡ nextOf (recordAt archive n) → magnitude ≡ exactAt count (recordAt archive n)
-      → fine′ ≡ (isInRange magnitude && fine) → sheet′ ≡ entered sheet count magnitude
-      → gatheredFrom stepped (state count fine sheet) (chain archive used quarterKind holder l)
-      ≡ gatheredFrom stepped (state (count + 1) fine′ sheet′) (chain archive used quarterKind n next)
-  turned archive used holder l n next count fine fine′ sheet sheet′ magnitude m e i f w =
-      gather-turn stepped (state count fine sheet) _ _ (entryAt archive n) (chain-met archive used quarterKind holder l n next m e)
-      ∙ rw (f, w, i)
+  readFrom count es = mapFrom (λ index e. quarterOf terms index (e .bytes)) count es
 
   -- ---- what is gathered from a whole chain
 
@@ -85,26 +76,26 @@ module _ (s : Direction) (x : Execution) (reference : book.Reference) (measure :
   fine-is [] g = refl
   fine-is (e ∷ es) g =
       fine-is es (stepped g e)
-      ∙ go (isReadable (quarterOf measure (g .count) (e .bytes))) (all isReadable (readFrom (g .count + 1) es)) (g .fine) (exactOf s x reference (quarterOf measure (g .count) (e .bytes)))
+      ∙ go (isReadable (quarterOf terms (g .count) (e .bytes))) (all isReadable (readFrom (g .count + 1) es)) (g .fine) (exactOf terms ref (quarterOf terms (g .count) (e .bytes)))
     where
       go : (t u v : Bool) (m : ℕ) → (u && (isInRange (exactAnswer t m) && v)) ≡ ((t && u) && v)
       go true u v m = refl
       go false true v m = refl
       go false false v m = refl
 
-  readable-step : (g : Gathered) (e : Entry) → isReadable (quarterOf measure (g .count) (e .bytes)) ≡ true
-      → stepped g e ≡ state (g .count + 1) (g .fine) (set (g .sheet) (g .count) (exactOf s x reference (quarterOf measure (g .count) (e .bytes))))
+  readable-step : (g : Gathered) (e : Entry) → isReadable (quarterOf terms (g .count) (e .bytes)) ≡ true
+      → stepped g e ≡ state (g .count + 1) (g .fine) (set (g .sheet) (g .count) (exactOf terms ref (quarterOf terms (g .count) (e .bytes))))
   readable-step g e r =
-      ap (λ (t : Bool). let m = exactAnswer t (exactOf s x reference (quarterOf measure (g .count) (e .bytes))) in
+      ap (λ (t : Bool). let m = exactAnswer t (exactOf terms ref (quarterOf terms (g .count) (e .bytes))) in
       state (g .count + 1) (isInRange m && g .fine) (entered (g .sheet) (g .count) m)) r
 
   -- the sheet has a place for each
   sheet-is : (es : List Entry) (g : Gathered) → all isReadable (readFrom (g .count) es) ≡ true → g .count + length es ≤ length (g .sheet)
-      → take (g .count + length es) (gathered stepped g es .sheet) ≡ take (g .count) (g .sheet) ++ map (exactOf s x reference) (readFrom (g .count) es)
+      → take (g .count + length es) (gathered stepped g es .sheet) ≡ take (g .count) (g .sheet) ++ map (exactOf terms ref) (readFrom (g .count) es)
   sheet-is [] g r h = let z : g .count + 0 ≡ g .count = omega arith in rw (z, append-nil)
   sheet-is (e ∷ es) g r h =
-      let b = both (isReadable (quarterOf measure (g .count) (e .bytes))) _ r in
-      let m : ℕ = exactOf s x reference (quarterOf measure (g .count) (e .bytes)) in
+      let b = both (isReadable (quarterOf terms (g .count) (e .bytes))) _ r in
+      let m : ℕ = exactOf terms ref (quarterOf terms (g .count) (e .bytes)) in
       let k : g .count + suc (length es) ≡ g .count + 1 + length es = omega arith in
       rw k
       (ap (λ (n : Gathered). take (g .count + 1 + length es) (gathered stepped n es .sheet)) (readable-step g e (b .0))
@@ -119,7 +110,7 @@ module _ (s : Direction) (x : Execution) (reference : book.Reference) (measure :
     are : o ≡ given entries
     count : g .count ≡ length entries
     fine : g .fine ≡ all isReadable (readFrom 0 entries)
-    sheet : g .fine ≡ true → length entries ≤ length (g .sheet) → take (length entries) (g .sheet) ≡ map (exactOf s x reference) (readFrom 0 entries)
+    sheet : g .fine ≡ true → length entries ≤ length (g .sheet) → take (length entries) (g .sheet) ≡ map (exactOf terms ref) (readFrom 0 entries)
 
   ended : (o : Outcome (List Entry)) (sheet : List ℕ) (g : Gathered) → length (g .sheet) ≡ length sheet → gatheredFrom stepped (state 0 true sheet) o ≡ given g → Ended o g
   ended (refused n) sheet g h e = let z : _≡_ {A = ℕ} 0 1 = cc in absurd (omega arith)
@@ -136,13 +127,8 @@ module _ (s : Direction) (x : Execution) (reference : book.Reference) (measure :
       }
     where
       sheets : (es : List Entry) (sheet : List ℕ) → all isReadable (readFrom 0 es) ≡ true → length es ≤ length sheet
-          → take (length es) (gathered stepped (state 0 true sheet) es .sheet) ≡ map (exactOf s x reference) (readFrom 0 es)
+          → take (length es) (gathered stepped (state 0 true sheet) es .sheet) ≡ map (exactOf terms ref) (readFrom 0 es)
       sheets es sheet r k = let z : 0 + length es ≡ length es = omega arith in rw z at (sheet-is es (state 0 true sheet) r (omega arith))
-
--- a refusal on the way is the chain's
-gathered-refused : {S : Type 0} (step : S → Entry → S) (g : S) (o : Outcome (List Entry)) (n : ℕ) → gatheredFrom step g o ≡ refused n → o ≡ refused n
-gathered-refused step g (refused k) n e = cc
-gathered-refused step g (given es) n e = let z : _≡_ {A = ℕ} 0 1 = cc in absurd (omega arith)
 
 -- ---- the sum of all magnitudes, in whole Wh
 
@@ -166,7 +152,7 @@ module _ (archive : List ℕ) (place : settle.Place) (basis : Basis) where
   unfolding quartersOf _>>=_
   walked-chain sheet n e = walked-refused sheet n (rw e)
 
-  module _ (g : Gathered) (h : Ended (directionOf (place .measure .bytes)) (executionOf (place .measure .bytes)) (basis .reference) (place .measure .bytes) (quarterChain archive place) g) where
+  module _ (g : Gathered) (h : Ended (place .terms) (basis .reference) (quarterChain archive place) g) where
     walked-uncounted : (leb 1 (g .count) && leb (g .count) 2976) ≡ false → WalkedBy archive place basis (g .sheet) (walked.Refused badCount)
     unfolding quartersOf _>>=_ _>>_ require
     walked-uncounted k = walked-refused (g .sheet) badCount (rw (h .are, ← h .count, k))
@@ -183,11 +169,8 @@ module _ (archive : List ℕ) (place : settle.Place) (basis : Basis) where
       few : length (h .entries) ≤ 2976
       few = omega (arith, leb-true (g .count) 2976 (both (leb 1 (g .count)) _ counted .1), h .count)
 
-      walked-given : g .fine ≡ true
-          → ((q : Quarter) → readable place basis q ≡ true
-          → exactOf (directionOf (place .measure .bytes)) (executionOf (place .measure .bytes)) (basis .reference) q ≤ 200000000000000 * denominator (basis .reference))
-          → WalkedBy archive place basis (g .sheet) (walked.Count (g .count))
-      walked-given f small =
+      walked-given : g .fine ≡ true → bounds.Bounded (basis .reference) → WalkedBy archive place basis (g .sheet) (walked.Count (g .count))
+      walked-given f bounded =
           let size : length (quartersRead place (h .entries)) ≡ length (h .entries) = map-from-length _ 0 (h .entries) in
           let is = quarters-read f in
           record {
@@ -196,86 +179,66 @@ module _ (archive : List ℕ) (place : settle.Place) (basis : Basis) where
                 let e = same-given i is in rw (e, size) (h .sheet f (omega (arith, k, ap (λ (qs : List Quarter). length qs) e, size)));
             fits = λ quarters i. rw (same-given i is)
                 (total-fits _ (length (h .entries)) (denominator (basis .reference)) few
-                (rw (← size) (sum-low _ _ (quartersRead place (h .entries)) (all-weaker _ small (all-passed (readable place basis) _ (sym (h .fine) ∙ f))))));
+                (rw (← size) (sum-low _ _ (quartersRead place (h .entries)) (all-weaker _ (λ q e. exact-small (place .terms) (basis .reference) q bounded e) (all-passed (readable (place .terms) (basis .reference)) _ (sym (h .fine) ∙ f))))));
           }
 
 -- ---- the walk of the code
 
--- it stands before a link: what is gathered from the whole chain is what is gathered from here on
-pub record Going (archive : List ℕ) (used measure : ℕ) (s : Direction) (x : Execution) (reference : Reference) (curve : Curve) (table start : List ℕ)
-    (last link : ℕ) (g : Gathered) : Type 0 where
-  pub gathers : (points : List Point) → Curved reference curve table points
-      → gatheredFrom (stepped s x (meaning reference points) (recordAt archive measure)) (state 0 true start)
-      (chain archive used quarterKind measure (firstQuarter (recordAt archive measure)))
-      ≡ gatheredFrom (stepped s x (meaning reference points) (recordAt archive measure)) g (chain archive used quarterKind last link)
+-- it stands before a link, with a sheet that was `start`: for each reference that the code's stands for, the law of walking
+pub record Going (archive : List ℕ) (used measure first : ℕ) (terms : Terms) (reference : Reference) (powers start : List ℕ) (last link : ℕ) (g : Gathered) : Type 0 where
+  pub walking : (ref : book.Reference) → Means reference powers ref
+      → Walking (stepped terms ref) archive used quarterKind measure first (state 0 true start) last link g
   pub below : last < used
   pub counted : g .count ≤ last
   pub size : length (g .sheet) ≡ length start
 
-module _ {archive : List ℕ} {used measure : ℕ} {s : Direction} {x : Execution} {reference : Reference} {curve : Curve} {table start : List ℕ} where
-  pub going-starts : {link : ℕ} → measure < used → link ≡ firstQuarter (recordAt archive measure)
-      → Going archive used measure s x reference curve table start measure link (state 0 true start)
-  going-starts below e = record { gathers = λ points c. rw e; below = below; counted = omega arith; size = refl }
+module _ {archive : List ℕ} {used measure first : ℕ} {terms : Terms} {reference : Reference} {powers start : List ℕ} where
+  pub going-starts : measure < used → Going archive used measure first terms reference powers start measure first (state 0 true start)
+  going-starts below = record { walking = λ ref m. walk-starts _ archive used quarterKind below; below = below; counted = omega arith; size = refl }
 
-  pub going-counts : {last link : ℕ} {g : Gathered} → Going archive used measure s x reference curve table start last link g → used < 65536 → Fits w64 (g .count + 1)
-  going-counts h few = record { fits = omega (arith, h .counted, h .below) }
+  module _ {last link : ℕ} {g : Gathered} (h : Going archive used measure first terms reference powers start last link g) where
+    pub going-counts : used < 65536 → Fits w64 (g .count + 1)
+    going-counts few = record { fits = omega (arith, h .counted, h .below) }
 
-  pub going-on : {last link n next count : ℕ} {fine fine′ : Bool} {sheet sheet′ : List ℕ} (magnitude : Exact)
-      → Going archive used measure s x reference curve table start last link (state count fine sheet)
-      → Met archive used quarterKind last link n → next ≡ nextOf (recordAt archive n)
-      → ((points : List Point) → Curved reference curve table points
-      → magnitude ≡ exactAt s x (meaning reference points) (recordAt archive measure) count (recordAt archive n))
-      → fine′ ≡ (isInRange magnitude && fine) → sheet′ ≡ entered sheet count magnitude → length sheet′ ≡ length sheet
-      → Going archive used measure s x reference curve table start n next (state (count + 1) fine′ sheet′)
-  going-on {last} {link} {n} {next} {count} {fine} {fine′} {sheet} {sheet′} magnitude g m e i f w k = record {
-    gathers = λ points c.
-        g .gathers points c
-        ∙ turned s x (meaning reference points) (recordAt archive measure) archive used last link n next count fine fine′ sheet sheet′ magnitude m e (i points c) f w;
-    below = m .below;
-    counted = omega (arith, g .counted, m .rises);
-    size = k ∙ g .size;
+    pub going-on : {n next : ℕ} {fine : Bool} {sheet : List ℕ} (magnitude : Exact) → Met archive used quarterKind last link n → next ≡ nextOf (recordAt archive n)
+        → ((ref : book.Reference) → Means reference powers ref → magnitude ≡ exactAt terms ref (g .count) (recordAt archive n))
+        → fine ≡ (isInRange magnitude && g .fine) → sheet ≡ entered (g .sheet) (g .count) magnitude → length sheet ≡ length (g .sheet)
+        → Going archive used measure first terms reference powers start n next (state (g .count + 1) fine sheet)
+    going-on magnitude met e i f w k = record {
+      walking = λ ref m. walk-turns _ archive used quarterKind (h .walking ref m) met e (rw (f, w, i ref m));
+      below = met .below;
+      counted = omega (arith, h .counted, met .rises);
+      size = k ∙ h .size;
+    }
+
+module _ {archive powers start : List ℕ} {reference : Reference} {first last link : ℕ} {g : Gathered} (place : Place)
+    (starts : first ≡ firstQuarter (recordAt archive (place .measure)))
+    (h : Going archive (place .used) (place .measure) first (meaning (place .terms)) reference powers start last link g) where
+  pub walks-refused : {answer : Link} {r : ℕ} → answer ≡ linkAnswer link (follow archive (place .used) quarterKind last link) → NoAt answer → (link ≡ 0 → ⊥)
+      → r ≡ refusalOf answer 0 → Walks archive place reference powers (g .sheet) (walked.Refused r)
+  walks-refused {answer} a none z i = record {
+    by = λ basis m.
+        rw i (walked-chain archive (meant archive place) basis (g .sheet) _
+        (rw starts at (walk-refused _ archive (place .used) quarterKind (h .walking (basis .reference) m) a none z)));
   }
 
-module _ {archive : List ℕ} {s : Direction} {x : Execution} {reference : Reference} {curve : Curve} {table start : List ℕ} {last link : ℕ} {g : Gathered} (place : Place)
-    (h : Going archive (place .used) (place .measure) s x reference curve table start last link g) where
-  pub walks-refused : {n r : ℕ} → chain archive (place .used) quarterKind last link ≡ refused n → r ≡ n
-      → Walks archive place reference curve table (g .sheet) (walked.Refused r)
-  walks-refused {n} e i = record {
-    by = λ points links c.
-        let f = gathered-refused _ _ _ n (h .gathers points c ∙ gather-refused (stepped s x (meaning reference points) (recordAt archive (place .measure))) g _ n e) in
-        rw i (walked-chain archive (meant archive place) _ (g .sheet) n f);
-  }
+  module _ (end : link ≡ 0) where
+    ends : (basis : Basis) → Means reference powers (basis .reference)
+        → Ended (meaning (place .terms)) (basis .reference) (quarterChain archive (meant archive place)) g
+    ends basis m =
+        ended (meaning (place .terms)) (basis .reference) _ start g (h .size)
+        (rw starts at (walk-ends _ archive (place .used) quarterKind (h .walking (basis .reference) m) end))
 
-  -- direction and execution are read from the part `&archive[32 * m..32 * m + 32]` of the measure
-  module _ (end : link ≡ 0) (b : Bounded reference)
-      (es : s ≡ directionOf (take (32 * place .measure + 32 - 32 * place .measure) (drop (32 * place .measure) archive)))
-      (ex : x ≡ executionOf (take (32 * place .measure + 32 - 32 * place .measure) (drop (32 * place .measure) archive))) where
-    abbrev basisWith : List Point → ℕ → Basis
-    basisWith points links = record { reference = meaning reference points; links = links }
-
-    ends : (points : List Point) → Curved reference curve table points
-        → Ended (directionOf (recordAt archive (place .measure))) (executionOf (recordAt archive (place .measure))) (meaning reference points) (recordAt archive (place .measure))
-        (quarterChain archive (meant archive place)) g
-    ends points c =
-        let p = record-part archive (place .measure) in
-        rw (← es ∙ ap directionOf p, ← ex ∙ ap executionOf p)
-        (ended s x (meaning reference points) (recordAt archive (place .measure)) _ start g (h .size)
-        (h .gathers points c ∙ gather-done _ g _ (chain-ends archive (place .used) quarterKind last link end)))
-
-    pub walks-uncounted : (leb 1 (g .count) && leb (g .count) 2976) ≡ false → Walks archive place reference curve table (g .sheet) (walked.Refused badCount)
-    walks-uncounted k = record { by = λ points links c. walked-uncounted archive (meant archive place) (basisWith points links) g (ends points c) k }
+    pub walks-uncounted : (leb 1 (g .count) && leb (g .count) 2976) ≡ false → Walks archive place reference powers (g .sheet) (walked.Refused badCount)
+    walks-uncounted k = record { by = λ basis m. walked-uncounted archive (meant archive place) basis g (ends basis m) k }
 
     module _ (counted : (leb 1 (g .count) && leb (g .count) 2976) ≡ true) where
-      pub walks-unreadable : g .fine ≡ false → Walks archive place reference curve table (g .sheet) (walked.Refused outOfRange)
-      walks-unreadable f = record {
-        by = λ points links c. walked-unreadable archive (meant archive place) (basisWith points links) g (ends points c) counted f;
-      }
+      pub walks-unreadable : g .fine ≡ false → Walks archive place reference powers (g .sheet) (walked.Refused outOfRange)
+      walks-unreadable f = record { by = λ basis m. walked-unreadable archive (meant archive place) basis g (ends basis m) counted f }
 
-      pub walks-given : g .fine ≡ true → Walks archive place reference curve table (g .sheet) (walked.Count (g .count))
-      walks-given f = record {
-        by = λ points links c.
-            walked-given archive (meant archive place) (basisWith points links) g (ends points c) counted f
-            (λ q r. exact-small (directionOf (recordAt archive (place .measure))) (executionOf (recordAt archive (place .measure))) reference points q b r);
+      pub walks-given : g .fine ≡ true → Bounded reference → Walks archive place reference powers (g .sheet) (walked.Count (g .count))
+      walks-given f bounded = record {
+        by = λ basis m. walked-given archive (meant archive place) basis g (ends basis m) counted f (means-bounded reference powers (basis .reference) m bounded);
       }
 
 -- ---- a place of the sheet

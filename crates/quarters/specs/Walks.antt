@@ -6,17 +6,15 @@ use Prim.Native.Nat.{ℕ, _/_, _^_, _≤_, _<_}
 use lib.ListN.{length, take, set}
 use Rattle.rules.specs.Outcome.{Outcome, refused, given}
 use Rattle.rules.specs.Numbers.{sum}
-use Rattle.rules.specs.Terms.{Point, Quarter}
+use Rattle.rules.specs.Terms.{Quarter}
 use Rattle.rules.specs.Settle as settle
 use Rattle.rules.specs.Settle.{Basis, quartersOf, exactsOf, measureDenominator}
 use Rattle.place.specs.declared.Place.{Place}
 use Rattle.place.specs.Places.{meant}
-use Rattle.curve.specs.declared.Curve.{Curve}
-use Rattle.energy.specs.declared.reference.Reference.{Reference}
-use Rattle.energy.specs.References.{meaning}
+use Rattle.reference.specs.declared.Reference.{Reference}
+use Rattle.reference.specs.References.{Means}
 use Rattle.exact.specs.declared.Exact.{Exact}
 use Rattle.exact.specs.declared.Exact.the-variants as exact
-use Rattle.exact.specs.Exacts.{Curved}
 use Rattle.quarters.specs.declared.Walked.{Walked}
 use Rattle.quarters.specs.declared.Walked.the-variants as walked
 
@@ -47,7 +45,6 @@ pub record WalkedBy (archive : List ℕ) (place : settle.Place) (basis : Basis) 
   pub fits : (quarters : List Quarter) → quartersOf archive place basis ≡ given quarters
       → sum (exactsOf place basis quarters) / measureDenominator basis < 2 ^ 63
 
--- with every basis that the reference stands for: the curve's points, and the links followed for it
-pub record Walks (archive : List ℕ) (place : Place) (reference : Reference) (curve : Curve) (table sheet : List ℕ) (answer : Walked) : Type 0 where
-  pub by : (points : List Point) (links : ℕ) → Curved reference curve table points
-      → WalkedBy archive (meant archive place) (record { reference = meaning reference points; links = links }) sheet answer
+-- on every basis that the reference stands for
+pub record Walks (archive : List ℕ) (place : Place) (reference : Reference) (powers sheet : List ℕ) (answer : Walked) : Type 0 where
+  pub by : (basis : Basis) → Means reference powers (basis .reference) → WalkedBy archive (meant archive place) basis sheet answer

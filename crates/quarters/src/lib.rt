@@ -4,14 +4,12 @@ ghost use mathlib.Core.Path.{_≡_};
 ghost use mathlib.Core.Bool.{_&&_};
 ghost use lib.Dec.{leb};
 ghost use Rattle.place.specs.Places.{Lies};
-ghost use Rattle.energy.specs.References.{Bounded};
-ghost use Rattle.exact.specs.Exacts.{Tabled};
+ghost use Rattle.reference.specs.References.{Held};
 ghost use Rattle.quarters.specs.Walks.{isInRange, entered, Walks};
 use chains::Link;
-use curve::Curve;
-use energy::reference::Reference;
 use exact::Exact;
 use place::Place;
+use reference::Reference;
 use rules::kind;
 use rules::refusal;
 
@@ -48,22 +46,17 @@ pub fn walk(
     archive: &[u8],
     place: Place,
     reference: Reference,
-    curve: Curve,
-    table: &[u64],
+    powers: &[u64],
     sheet: &mut [u64],
 ) -> Walked
     requires { ⌜ Lies (now archive) place ⌝ }
-    requires { ⌜ Bounded reference ⌝ }
-    requires { ⌜ Tabled reference curve (now table) ⌝ }
-    ensures { λ r. ⌜ Walks (now (archive .entry)) place reference curve (now (table .entry)) (now (sheet .exit)) r ⌝ }
+    requires { ⌜ Held reference (now powers) ⌝ }
+    ensures { λ r. ⌜ Walks (now (archive .entry)) place reference (now (powers .entry)) (now (sheet .exit)) r ⌝ }
 {
     let used = place.used;
-    let measure = place.measure;
-    let m = measure as usize;
-    let direction = terms::direction_of(&archive[32 * m..32 * m + 32]);
-    let execution = terms::execution_of(&archive[32 * m..32 * m + 32]);
-    let mut last = measure;
-    let mut link = record::link_of(archive, measure, 12);
+    let terms = place.terms;
+    let mut last = place.measure;
+    let mut link = record::link_of(archive, last, 12);
     let mut count: usize = 0;
     let mut fine = true;
     while link != 0 {
@@ -71,7 +64,15 @@ pub fn walk(
         let Link::At(n) = answer else {
             return Walked::Refused(chains::refusal_of(answer, 0));
         };
-        let magnitude = exact::exact_at(archive, n, direction, execution, reference, curve, table);
+        let i = n as usize;
+        let index = count as u64;
+        let magnitude = exact::exact_of(
+            terms,
+            index,
+            reference,
+            powers,
+            &archive[32 * i..32 * i + 32],
+        );
         fine = enter(sheet, count, magnitude) & fine;
         count += 1;
         last = n;

@@ -136,7 +136,13 @@ fn as_planned(r: &[u8]) -> Numerator
 }
 
 // Of a measure's quarter, from its index along the chain and its own 32 bytes.
-pub fn numerator_of(reference: Reference, powers: &[u64], terms: Terms, index: u64, r: &[u8]) -> Numerator
+pub fn numerator_of(
+    reference: Reference,
+    powers: &[u64],
+    terms: Terms,
+    index: u64,
+    r: &[u8],
+) -> Numerator
     requires { ⌜ Held reference (now powers) ⌝ }
     requires { ⌜ length (now r) ≡ 32 ⌝ }
     ensures { λ n. ⌜ ((ref : book.Reference) → Means reference (now (powers .entry)) ref
