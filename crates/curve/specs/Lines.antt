@@ -15,5 +15,5 @@ pub record InRange (a : Point) : Type 0 where
 
 -- the line from a to b at so many speeds from this one on
 unfoldable pub filled : Point → Point → ℕ → ℕ → List ℕ → List ℕ
-filled a b zero speed table = table
-filled a b (suc n) speed table = filled a b n (suc speed) (set table speed (lineAt a b speed))
+filled a b zero speed powers = powers
+filled a b (suc n) speed powers = filled a b n (suc speed) (set powers speed (lineAt a b speed))

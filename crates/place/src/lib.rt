@@ -71,10 +71,7 @@ fn admit(archive: &[u8], used: u64, plant: u64, measure: u64, links: u64) -> Pla
 {
     let i = plant as usize;
     let j = measure as usize;
-    let admitted = terms::admit(
-        &archive[32 * i..32 * i + 32],
-        &archive[32 * j..32 * j + 32],
-    );
+    let admitted = terms::admit(&archive[32 * i..32 * i + 32], &archive[32 * j..32 * j + 32]);
     match admitted {
         Admitted::Refused(n) => Placed::Refused(n),
         Admitted::With(terms) => Placed::At(Place {

@@ -49,26 +49,26 @@ module _ (archive : List ℕ) (used last link n next : ℕ) (w v : Walk) where
 
 -- ---- the end, or a refused link
 
-module _ (archive : List ℕ) (place : Place) (first : ℕ) (starts : first ≡ linkAt (recordAt archive (place .plant)) 8) (table : List ℕ) where
+module _ (archive : List ℕ) (place : Place) (first : ℕ) (starts : first ≡ linkAt (recordAt archive (place .plant)) 8) (powers : List ℕ) where
   points-are : pointsOf archive (meant archive place) ≡ pointsFrom (chain archive (place .used) pointKind (place .plant) first)
   unfolding pointsOf
   points-are = rw starts
 
   module _ (last link : ℕ) (w : Walk)
-      (inv : gatheredFrom stepped (walk noPoints table) (chain archive (place .used) pointKind (place .plant) first)
+      (inv : gatheredFrom stepped (walk noPoints powers) (chain archive (place .used) pointKind (place .plant) first)
       ≡ gatheredFrom stepped w (chain archive (place .used) pointKind last link)) where
-    pub walk-ended : length table ≡ 1001 → Low table → link ≡ 0 → (r : CurveAnswer) → r ≡ answerOf (w .read)
-        → CurveRead (pointsOf archive (meant archive place)) r (w .table)
+    pub walk-ended : length powers ≡ 1001 → Low powers → link ≡ 0 → (r : CurveAnswer) → r ≡ answerOf (w .read)
+        → CurveRead (pointsOf archive (meant archive place)) r (w .powers)
     walk-ended size low z r e =
         rw (points-are, e)
         (go (chain archive (place .used) pointKind (place .plant) first)
         (inv ∙ gather-done stepped w (chain archive (place .used) pointKind last link) (chain-ends archive (place .used) pointKind last link z)))
       where
-        go : (o : Outcome (List Entry)) → gatheredFrom stepped (walk noPoints table) o ≡ given w → CurveRead (pointsFrom o) (answerOf (w .read)) (w .table)
+        go : (o : Outcome (List Entry)) → gatheredFrom stepped (walk noPoints powers) o ≡ given w → CurveRead (pointsFrom o) (answerOf (w .read)) (w .powers)
         go (refused n) f = let x : _≡_ {A = ℕ} 0 1 = cc in absurd (omega arith)
         go (given es) f =
-            let i : end table es ≡ w = cc in
-            subst (λ (x : Walk). CurveRead (pointsFrom (given es)) (answerOf (x .read)) (x .table)) i (answered table size low es)
+            let i : end powers es ≡ w = cc in
+            subst (λ (x : Walk). CurveRead (pointsFrom (given es)) (answerOf (x .read)) (x .powers)) i (answered powers size low es)
 
     pub walk-refused : (answer : Link) → answer ≡ linkAnswer link (follow archive (place .used) pointKind last link) → NoAt answer → (link ≡ 0 → ⊥)
         → (k : ℕ) → k ≡ refusalOf answer 0 → (left : List ℕ) → CurveRead (pointsOf archive (meant archive place)) (Refused k) left
@@ -79,22 +79,22 @@ module _ (archive : List ℕ) (place : Place) (first : ℕ) (starts : first ≡ 
         (inv ∙ gather-refused stepped w (chain archive (place .used) pointKind last link) (refusalOf answer 0)
         (chain-none archive (place .used) pointKind last link answer a none z)))
       where
-        go : (o : Outcome (List Entry)) → gatheredFrom stepped (walk noPoints table) o ≡ refused (refusalOf answer 0)
+        go : (o : Outcome (List Entry)) → gatheredFrom stepped (walk noPoints powers) o ≡ refused (refusalOf answer 0)
             → CurveRead (pointsFrom o) (Refused (refusalOf answer 0)) left
         go (refused m) f = let i : refusalOf answer 0 ≡ m = cc in ap Refused i
         go (given es) f = let x : _≡_ {A = ℕ} 0 1 = cc in absurd (omega arith)
 
 -- ---- what an answer says to a caller
 
-module _ (table : List ℕ) where
+module _ (powers : List ℕ) where
   -- these points are given
   pub record PointsGiven (o : Outcome (List Point)) (curve : Curve) (links : ℕ) : Type 0 where
     pub points : List Point
     pub is : o ≡ given points
     pub count : links ≡ length points
-    pub tabulates : Tabulates curve table points
+    pub tabulates : Tabulates curve powers points
 
-  pub answer-given : (o : Outcome (List Point)) (r : CurveAnswer) (curve : Curve) (links : ℕ) → CurveRead o r table → r ≡ Read curve links
+  pub answer-given : (o : Outcome (List Point)) (r : CurveAnswer) (curve : Curve) (links : ℕ) → CurveRead o r powers → r ≡ Read curve links
       → PointsGiven o curve links
   answer-given (refused n) r curve links h e = let x : _≡_ {A = ℕ} 0 1 = cc in absurd (omega arith)
   answer-given (given points) r curve links h e =
@@ -103,9 +103,9 @@ module _ (table : List ℕ) where
         points = points;
         is = refl;
         count = cc;
-        tabulates = subst (λ (c : Curve). Tabulates c table points) (cc) (h .tabulates);
+        tabulates = subst (λ (c : Curve). Tabulates c powers points) (cc) (h .tabulates);
       }
 
-  pub answer-refused : (o : Outcome (List Point)) (r : CurveAnswer) (n : ℕ) → CurveRead o r table → r ≡ Refused n → o ≡ refused n
+  pub answer-refused : (o : Outcome (List Point)) (r : CurveAnswer) (n : ℕ) → CurveRead o r powers → r ≡ Refused n → o ≡ refused n
   answer-refused (refused m) r n h e = cc
   answer-refused (given points) r n h e = let x : _≡_ {A = ℕ} 0 1 = cc (h .is) in absurd (omega arith)

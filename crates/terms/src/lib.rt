@@ -4,11 +4,11 @@ ghost use lib.ListN.{length};
 ghost use Rattle.rules.specs.Terms.{technologyOf, variantOf, plantAllowed, directionOf, executionOf, measureAllowed};
 ghost use Rattle.rules.specs.Settle.{admitted};
 ghost use Rattle.terms.specs.Meanings.{admittedAnswer};
-use rules::refusal;
 use rules::Direction;
 use rules::Execution;
 use rules::Technology;
 use rules::Variant;
+use rules::refusal;
 use units::Watt;
 
 // Handed on as one value; nothing of plant and measure is read again.

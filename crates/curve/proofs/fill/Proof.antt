@@ -14,15 +14,15 @@ use Rattle.curve.proofs.fill.Reads as reads
 use Rattle.curve.proofs.fill.Lts as lts
 
 abbrev Inv-loop : tie.InvT-loop
-Inv-loop table₀ s0 p0 s1 p1 width change step part speed₀ power₀ rest₀ table speed power rest =
-    (filled (point s0 p0) (point s1 p1) (s1 - s0) s0 table₀ ≡ filled (point s0 p0) (point s1 p1) (s1 - speed) speed table)
+Inv-loop powers₀ s0 p0 s1 p1 width change step part speed₀ power₀ rest₀ powers speed power rest =
+    (filled (point s0 p0) (point s1 p1) (s1 - s0) s0 powers₀ ≡ filled (point s0 p0) (point s1 p1) (s1 - speed) speed powers)
     × (s0 ≤ speed)
     × (speed ≤ s1)
     × OnLine (point s0 p0) (point s1 p1) speed power rest
-    × (length table ≡ length table₀)
+    × (length powers ≡ length powers₀)
 
 abbrev μ-loop : tie.MeasureT-loop
-μ-loop table₀ s0 p0 s1 p1 width change step part speed₀ power₀ rest₀ table speed power rest = s1 - speed
+μ-loop powers₀ s0 p0 s1 p1 width change step part speed₀ power₀ rest₀ powers speed power rest = s1 - speed
 
 -- the two points follow one another
 piece : (c : lts.Start reads.Pre reads.Post Inv-loop μ-loop) → Piece (point (c .args .s0) (c .args .p0)) (point (c .args .s1) (c .args .p1))
@@ -51,11 +51,11 @@ loop-holds c =
     let a = c .args in
     (refl, omega arith, omega arith, line-starts (point (a .s0) (a .p0)) (point (a .s1) (a .p1)) (omega arith), refl)
 
-mul-table : tie.Need-mul-table Inv-loop μ-loop
-mul-table c = omega arith
+mul-powers : tie.Need-mul-powers Inv-loop μ-loop
+mul-powers c = omega arith
 
-slice-write-table : tie.Need-slice-write-table Inv-loop μ-loop
-slice-write-table c = omega arith
+slice-write-powers : tie.Need-slice-write-powers Inv-loop μ-loop
+slice-write-powers c = omega arith
 
 add-rest : tie.Need-add-rest Inv-loop μ-loop
 add-rest c = rest-fits (piece (c .before .before)) (c .before .loop .inv .3)
@@ -92,7 +92,7 @@ loop-again c =
     let a = c .before .before .before .before .args in
     let l = c .before .before .before .loop in (
       l .inv .0
-          ∙ filled-turn (point (a .s0) (a .p0)) (point (a .s1) (a .p1)) (a .s1) (l .speed) (l .power) (l .table) (c .before .before .loop-test .taken)
+          ∙ filled-turn (point (a .s0) (a .p0)) (point (a .s1) (a .p1)) (a .s1) (l .speed) (l .power) (l .powers) (c .before .before .loop-test .taken)
           (line-power (point (a .s0) (a .p0)) (point (a .s1) (a .p1)) (l .speed) (l .power) (l .rest) (l .inv .3)),
       on-from (l .inv .1),
       on-until (c .before .before .loop-test .taken),
@@ -107,7 +107,7 @@ returns : tie.Need-returns Inv-loop μ-loop
 returns c =
     let a = c .before .before .args in
     let l = c .before .loop in
-    sym (l .inv .0 ∙ filled-done (point (a .s0) (a .p0)) (point (a .s1) (a .p1)) (a .s1) (l .speed) (l .table) (c .loop-test .left))
+    sym (l .inv .0 ∙ filled-done (point (a .s0) (a .p0)) (point (a .s1) (a .p1)) (a .s1) (l .speed) (l .powers) (c .loop-test .left))
 
 pub fill-spec : {M : Type 1} → statement M
 fill-spec =
@@ -122,8 +122,8 @@ fill-spec =
     div-step
     rem-part
     loop-holds
-    mul-table
-    slice-write-table
+    mul-powers
+    slice-write-powers
     add-rest
     add-power
     add-power-2

@@ -21,7 +21,7 @@ returns c =
     let p = c .before .before .before .before in
     let a = p .args in
     let f = c .before .before .read-curve in
-    says-below (a .curve) (a .table .now) (a .speed .0) (f .result) (f .ensures) (p .pre .1) (p .pre .2) (c .enum-told .given .1)
+    says-below (a .curve) (a .powers .now) (a .speed .0) (f .result) (f .ensures) (p .pre .1) (p .pre .2) (c .enum-told .given .1)
 
 returns-2 : tie.Need-returns-2
 returns-2 c =
@@ -29,14 +29,14 @@ returns-2 c =
     let a = p .args in
     let f = c .before .before .before .read-curve in
     let r = c .before .reading .given in
-    says-on (a .curve) (a .table .now) (a .speed .0) (f .result) (f .ensures) (p .pre .1) (p .pre .2) (r .0 .0) (r .1)
+    says-on (a .curve) (a .powers .now) (a .speed .0) (f .result) (f .ensures) (p .pre .1) (p .pre .2) (r .0 .0) (r .1)
 
 returns-3 : tie.Need-returns-3
 returns-3 c =
     let p = c .before .before .before .before in
     let a = p .args in
     let f = c .before .before .read-curve in
-    says-above (a .curve) (a .table .now) (a .speed .0) (f .result) (f .ensures) (p .pre .1) (p .pre .2) (c .enum-told2 .given .1)
+    says-above (a .curve) (a .powers .now) (a .speed .0) (f .result) (f .ensures) (p .pre .1) (p .pre .2) (c .enum-told2 .given .1)
 
 pub power-at-spec : {M : Type 1} → statement M
 power-at-spec =

@@ -13,7 +13,7 @@ is-below-requires c κs = search needs
 returns : tie.Need-returns
 returns c =
     let a = c .before .before .before .args in
-    reading-below (a .curve) (a .table .now) (a .speed .0) (ltb-true _ _ (sym (c .before .is-below .ensures) ∙ c .if1 .taken))
+    reading-below (a .curve) (a .powers .now) (a .speed .0) (ltb-true _ _ (sym (c .before .is-below .ensures) ∙ c .if1 .taken))
 
 is-below-requires-2 : tie.Need-is-below-requires-2
 is-below-requires-2 c κs = search needs
@@ -21,7 +21,7 @@ is-below-requires-2 c κs = search needs
 returns-2 : tie.Need-returns-2
 returns-2 c =
     let a = c .before .before .before .before .before .args in
-    reading-above (a .curve) (a .table .now) (a .speed .0) (ltb-false _ _ (sym (c .before .before .before .is-below .ensures) ∙ c .before .before .if1 .left)) (ltb-true _ _ (sym (c .before .is-below2 .ensures) ∙ c .if2 .taken))
+    reading-above (a .curve) (a .powers .now) (a .speed .0) (ltb-false _ _ (sym (c .before .before .before .is-below .ensures) ∙ c .before .before .if1 .left)) (ltb-true _ _ (sym (c .before .is-below2 .ensures) ∙ c .if2 .taken))
 
 mul-watt-of : tie.Need-mul-watt-of
 mul-watt-of c = search needs
@@ -36,7 +36,7 @@ returns-3 : tie.Need-returns-3
 returns-3 c =
     let p = c .before .before .before .before .before .before .before in
     let a = p .args in
-    reading-on (a .curve) (a .table .now) (a .speed .0) (ltb-false _ _ (sym (c .before .before .before .before .before .is-below .ensures) ∙ c .before .before .before .before .if1 .left)) (ltb-false _ _ (sym (c .before .before .before .is-below2 .ensures) ∙ c .before .before .if2 .left)) (p .pre .1) (c .watt-of .result) (c .watt-of .ensures)
+    reading-on (a .curve) (a .powers .now) (a .speed .0) (ltb-false _ _ (sym (c .before .before .before .before .before .is-below .ensures) ∙ c .before .before .before .before .if1 .left)) (ltb-false _ _ (sym (c .before .before .before .is-below2 .ensures) ∙ c .before .before .if2 .left)) (p .pre .1) (c .watt-of .result) (c .watt-of .ensures)
 
 pub read-curve-spec : {M : Type 1} → statement M
 read-curve-spec =

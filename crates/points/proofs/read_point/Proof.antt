@@ -57,11 +57,11 @@ returns c =
     let a = c .before .before .before .before .before .before .before .before .before .before .before .before .before .before .args in
     let f = c .before .before .add-point in
     record-allowed (tested (c .before .before .before .before .before .before .before)) (c .before .before .before .before .before .before .if1 .taken) (c .before .before .before .before .speed-of .result .0) (c .before .before .before .unsigned .result)
-    (walk (a .read) (a .table .now)) (walk (f .result) (f .last .1 .0))
+    (walk (a .read) (a .powers .now)) (walk (f .result) (f .last .1 .0))
     (c .before .before .before .before .speed-of .ensures .0) (c .before .before .before .unsigned .ensures) (f .ensures)
 
 returns-2 : tie.Need-returns-2
-returns-2 c = let a = c .before .before .before .before .before .before .before .before .args in record-out (tested (c .before)) (c .if1 .left) (walk (a .read) (a .table .now))
+returns-2 c = let a = c .before .before .before .before .before .before .before .before .args in record-out (tested (c .before)) (c .if1 .left) (walk (a .read) (a .powers .now))
 
 pub read-point-spec : {M : Type 1} → statement M
 read-point-spec =

@@ -26,15 +26,15 @@ use Rattle.points.proofs.answer_of.Reads as answer-of-reads
 use Rattle.points.proofs.read_point.Reads as read-point-reads
 
 abbrev Inv-loop : tie.InvT-loop
-Inv-loop archive table₀ used last₀ link₀ read₀ table last link read =
-    (gatheredFrom stepped (walk noPoints table₀) (chain archive used pointKind last₀ link₀) ≡ gatheredFrom stepped (walk read table) (chain archive used pointKind last link))
+Inv-loop archive powers₀ used last₀ link₀ read₀ powers last link read =
+    (gatheredFrom stepped (walk noPoints powers₀) (chain archive used pointKind last₀ link₀) ≡ gatheredFrom stepped (walk read powers) (chain archive used pointKind last link))
     × (last < used)
     × (read .count ≤ last)
     × InRange (lastRead read)
-    × (length table ≡ length table₀)
+    × (length powers ≡ length powers₀)
 
 abbrev μ-loop : tie.MeasureT-loop
-μ-loop archive table₀ used last₀ link₀ read₀ table last link read = used - last
+μ-loop archive powers₀ used last₀ link₀ read₀ powers last link read = used - last
 
 link-of-requires : tie.Need-link-of-requires Inv-loop μ-loop
 link-of-requires c κs = (end-within (c .before .before .pre .0 .plant-used) (c .before .before .pre .0 .room), lit≤ tt)
@@ -60,8 +60,8 @@ returns c =
     let l = c .before .before .before .before .loop in
     let f = c .before .before .follow in
     let i = c .before .before .before .before .before .link-of in
-    walk-refused (a .archive .now) (a .place) (i .result) (i .ensures .0) (a .table .now) (l .last) (l .link) (walk (l .read) (l .table)) (l .inv .0)
-    (f .result) (f .ensures) (no-at (f .result) (c .before .match .keys2)) (c .before .before .before .loop-test .taken) (c .refusal-of .result) (c .refusal-of .ensures) (l .table)
+    walk-refused (a .archive .now) (a .place) (i .result) (i .ensures .0) (a .powers .now) (l .last) (l .link) (walk (l .read) (l .powers)) (l .inv .0)
+    (f .result) (f .ensures) (no-at (f .result) (c .before .match .keys2)) (c .before .before .before .loop-test .taken) (c .refusal-of .result) (c .refusal-of .ensures) (l .powers)
 
 -- the record that the link leads to
 met-at : (c : lts.After-known-told (link-of-reads.Asked, link-of-reads.Learnt, follow-reads.Asked, follow-reads.Learnt, refusal-of-reads.Asked, refusal-of-reads.Learnt, read-point-reads.Asked, read-point-reads.Learnt, answer-of-reads.Asked, answer-of-reads.Learnt) reads.Pre reads.Post Inv-loop μ-loop)
@@ -106,7 +106,7 @@ loop-again c =
     let n = c .before .before .before .before .before .before .before .answer .given .0 .0 in
     let f = c .before .before .before .read-point in
     let m = met-at (c .before .before .before .before .before .before) in
-    let t = turned (a .archive .now) (a .place .used) (l .last) (l .link) n (c .link-of2 .result) (walk (l .read) (l .table)) (walk (f .result) (f .last .1 .1 .0))
+    let t = turned (a .archive .now) (a .place .used) (l .last) (l .link) n (c .link-of2 .result) (walk (l .read) (l .powers)) (walk (f .result) (f .last .1 .1 .0))
     m (c .link-of2 .ensures .0) (l .inv .3) _ (record-part (a .archive .now) n) (f .ensures) in
     (l .inv .0 ∙ t .gathers, m .below, omega (arith, t .count, m .rises), t .in-range, f .kept .1 .1 .0 ∙ l .inv .4)
 
@@ -122,7 +122,7 @@ returns-2 c =
     let a = p .args in
     let l = c .before .before .loop in
     let i = c .before .before .before .link-of in
-    walk-ended (a .archive .now) (a .place) (i .result) (i .ensures .0) (a .table .now) (l .last) (l .link) (walk (l .read) (l .table)) (l .inv .0)
+    walk-ended (a .archive .now) (a .place) (i .result) (i .ensures .0) (a .powers .now) (l .last) (l .link) (walk (l .read) (l .powers)) (l .inv .0)
     (p .pre .1 .0) (p .pre .1 .1) (c .before .loop-test .left) (c .answer-of .result) (c .answer-of .ensures)
 
 pub read-points-spec : {M : Type 1} → statement M
