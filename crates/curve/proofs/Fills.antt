@@ -14,9 +14,9 @@ use lib.Seq.{getD-set-same, getD-set-other}
 use Rattle.rules.specs.Terms.{Point}
 use Rattle.rules.specs.Reference.{lineAt}
 use Rattle.curve.specs.Tables.{Low}
-use Rattle.curve.specs.Lines.{filled}
+use Rattle.curve.specs.Lines.{Piece, filled}
 use Rattle.rules.proofs.Curve.{line-low}
-use Rattle.curve.proofs.Line.{Piece}
+use Rattle.curve.proofs.Line.{OnLine}
 
 module _ (a b : Point) where
   pub filled-turn : (end speed power : ℕ) (powers : List ℕ) → speed < end → power ≡ lineAt a b speed
@@ -53,6 +53,14 @@ module _ (a b : Point) where
       (λ l. filled-within n (suc speed) v (set powers speed (lineAt a b speed)) (omega arith) (omega arith)
       (omega (arith, length-set powers speed (lineAt a b speed))))
       (eq-or-lt-of-le h)
+
+-- the line from a to b is filled in as far as this speed, where it has this quotient and remainder
+pub record Filling (a b : Point) (start powers : List ℕ) (speed power rest : ℕ) : Type 0 where
+  pub same : filled a b (b .speed - a .speed) (a .speed) start ≡ filled a b (b .speed - speed) speed powers
+  pub from : a .speed ≤ speed
+  pub until : speed ≤ b .speed
+  pub line : OnLine a b speed power rest
+  pub size : length powers ≡ length start
 
 -- ---- one more point: the line from a to b, and at b its own power
 
