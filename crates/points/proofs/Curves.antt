@@ -21,8 +21,7 @@ use Rattle.rules.proofs.Inversion.{both-left, both-right, All, none, more}
 use Rattle.rules.proofs.Sound.{both}
 use Rattle.rules.proofs.Curve.{below-first, above-last, from-point, between, at-point}
 use Rattle.curve.specs.Tables.{tableReading, Low, Tabulates}
-use Rattle.curve.specs.Lines.{InRange}
-use Rattle.curve.proofs.Line.{Piece}
+use Rattle.curve.specs.Lines.{InRange, Piece}
 use Rattle.curve.proofs.Fills.{either-side, set-low, next-size, next-before, next-line, next-point, next-low}
 use Rattle.points.specs.declared.CurveAnswer.the-variants.{Read, Refused}
 use Rattle.points.specs.Steps.{Walk, walk, noPoints, lastRead, counted, withNext, withPoint, answerOf}

@@ -1,12 +1,13 @@
 -- The walk along the points of a curve, step by step: what it has read, and the table that it fills.
-use Prim.Native.Nat.{ℕ, _+_, _-_}
+use Prim.Native.Nat.{ℕ, _+_, _-_, _<_}
+use mathlib.Core.Path.{_≡_}
 use mathlib.Core.Bool.{true, false, cond, _&&_}
 use mathlib.Core.List.{List}
 use lib.Dec.{eqb, leb, ltb}
-use lib.ListN.{set}
+use lib.ListN.{length, set}
 use Rattle.rules.specs.Refusals.{outOfRange, badCurve}
 use Rattle.rules.specs.Terms.{Point, pointOf, pointAllowed}
-use Rattle.curve.specs.Lines.{point, filled}
+use Rattle.curve.specs.Lines.{InRange, point, filled}
 use Rattle.points.specs.declared.PointsRead.{PointsRead}
 use Rattle.points.specs.declared.CurveAnswer.{CurveAnswer}
 use Rattle.points.specs.declared.CurveAnswer.the-variants.{Read, Refused}
@@ -26,6 +27,19 @@ noPoints = record { count = 0; allowed = true; rising = true; first = 0; last = 
 -- the last point whose speed rises
 abbrev pub lastRead : PointsRead → Point
 lastRead p = point (p .last) (p .power)
+
+-- one more point can go into the table
+pub record PointFits (powers : List ℕ) (read : PointsRead) (a : Point) : Type 0 where
+  pub size : length powers ≡ 1001
+  pub last-in-range : InRange (lastRead read)
+  pub in-range : InRange a
+
+-- one more record can be read
+pub record RecordFits (r powers : List ℕ) (read : PointsRead) : Type 0 where
+  pub whole : length r ≡ 32
+  pub size : length powers ≡ 1001
+  pub few : read .count < 65536
+  pub last-in-range : InRange (lastRead read)
 
 -- one point more
 abbrev pub counted : PointsRead → PointsRead

@@ -20,6 +20,9 @@ returns c =
 fill-requires : tie.Need-fill-requires
 fill-requires c κs = search needs
 
+cast-powers : tie.Need-cast-powers
+cast-powers c = search needs
+
 mul-powers : tie.Need-mul-powers
 mul-powers c = search needs
 
@@ -42,4 +45,4 @@ returns-2 c =
 
 pub add-point-spec : {M : Type 1} → statement M
 add-point-spec =
-    tie.close (tie.spec returns fill-requires mul-powers slice-write-powers same-length returns-2)
+    tie.close (tie.spec returns fill-requires cast-powers mul-powers slice-write-powers same-length returns-2)
