@@ -9,7 +9,7 @@ use mir.Val.{Fits}
 use Rattle.rules.specs.Terms.{Point}
 use Rattle.rules.specs.Reference.{lineAt}
 use Rattle.rules.proofs.Curve.{line-low}
-use Rattle.curve.specs.Lines.{InRange}
+use Rattle.curve.specs.Lines.{Piece}
 
 module _ (a b : Point) where
   -- the line's value at a speed, times the distance of the two points' speeds
@@ -79,12 +79,6 @@ stepOf a b = changeOf a b / (b .speed - a .speed)
 
 abbrev pub partOf : Point → Point → ℕ
 partOf a b = changeOf a b % (b .speed - a .speed)
-
--- two points that follow one another on a curve
-pub record Piece (a b : Point) : Type 0 where
-  pub rises : a .speed < b .speed
-  pub left : InRange a
-  pub right : InRange b
 
 -- what the code has between the carry and the change
 pub record Turned (a b : Point) (v power rest : ℕ) : Type 0 where

@@ -1,5 +1,5 @@
 -- The line between two points, filled into a table.
-use Prim.Native.Nat.{ℕ, zero, suc, _≤_}
+use Prim.Native.Nat.{ℕ, zero, suc, _≤_, _<_}
 use mathlib.Core.List.{List}
 use lib.ListN.{set}
 use Rattle.rules.specs.Terms.{Point}
@@ -13,7 +13,13 @@ pub record InRange (a : Point) : Type 0 where
   pub low-speed : a .speed ≤ 1000
   pub low-power : a .power ≤ 1000000000
 
+-- two points that follow one another on a curve
+pub record Piece (a b : Point) : Type 0 where
+  pub rises : a .speed < b .speed
+  pub left : InRange a
+  pub right : InRange b
+
 -- the line from a to b at so many speeds from this one on
 unfoldable pub filled : Point → Point → ℕ → ℕ → List ℕ → List ℕ
-filled a b zero speed table = table
-filled a b (suc n) speed table = filled a b n (suc speed) (set table speed (lineAt a b speed))
+filled a b zero speed powers = powers
+filled a b (suc n) speed powers = filled a b n (suc speed) (set powers speed (lineAt a b speed))

@@ -26,29 +26,29 @@ stepped w e = withRecord (e .bytes) w
 
 -- one more point in range
 abbrev pub onward : Point → Walk → Walk
-onward a w = withPoint a (walk (counted (w .read)) (w .table))
+onward a w = withPoint a (walk (counted (w .read)) (w .powers))
 
 -- ---- what each step keeps
 
 -- a fact of a step, from its cases
 module _ (P : Walk → Type 0) (w : Walk) where
-  point-case : (a : Point) → P (withFirst a (counted (w .read)) (w .table)) → P (withNext a (counted (w .read)) (w .table))
-      → P (withNotRising (counted (w .read)) (w .table)) → P (onward a w)
+  point-case : (a : Point) → P (withFirst a (counted (w .read)) (w .powers)) → P (withNext a (counted (w .read)) (w .powers))
+      → P (withNotRising (counted (w .read)) (w .powers)) → P (onward a w)
   unfolding withPoint
   point-case a x y z = go (eqb (w .read .count + 1) 1) (ltb (w .read .last) (a .speed))
     where
-      go : (t u : Bool) → P (cond t (withFirst a (counted (w .read)) (w .table))
-          (cond u (withNext a (counted (w .read)) (w .table)) (withNotRising (counted (w .read)) (w .table))))
+      go : (t u : Bool) → P (cond t (withFirst a (counted (w .read)) (w .powers))
+          (cond u (withNext a (counted (w .read)) (w .powers)) (withNotRising (counted (w .read)) (w .powers))))
       go true u = x
       go false true = y
       go false false = z
 
-  record-case : (r : List ℕ) → (pointAllowed r ≡ true → P (onward (pointOf r) w)) → (pointAllowed r ≡ false → P (withOutOfRange (counted (w .read)) (w .table)))
+  record-case : (r : List ℕ) → (pointAllowed r ≡ true → P (onward (pointOf r) w)) → (pointAllowed r ≡ false → P (withOutOfRange (counted (w .read)) (w .powers)))
       → P (withRecord r w)
   unfolding withRecord
   record-case r x y = go (pointAllowed r) refl
     where
-      go : (t : Bool) → pointAllowed r ≡ t → P (cond t (onward (pointOf r) w) (withOutOfRange (counted (w .read)) (w .table)))
+      go : (t : Bool) → pointAllowed r ≡ t → P (cond t (onward (pointOf r) w) (withOutOfRange (counted (w .read)) (w .powers)))
       go true e = x e
       go false e = y e
 
@@ -115,19 +115,19 @@ all-in-range (e ∷ es) h =
 -- ---- the speeds rise
 
 module _ (a : Point) (w : Walk) (some : 0 < w .read .count) where
-  pub onward-next : w .read .last < a .speed → onward a w ≡ withNext a (counted (w .read)) (w .table)
-  onward-next h = is-next a (counted (w .read)) (w .table) (λ e. omega arith) h
+  pub onward-next : w .read .last < a .speed → onward a w ≡ withNext a (counted (w .read)) (w .powers)
+  onward-next h = is-next a (counted (w .read)) (w .powers) (λ e. omega arith) h
 
-  onward-not-rising : a .speed ≤ w .read .last → onward a w ≡ withNotRising (counted (w .read)) (w .table)
-  onward-not-rising h = is-not-rising a (counted (w .read)) (w .table) (λ e. omega arith) h
+  onward-not-rising : a .speed ≤ w .read .last → onward a w ≡ withNotRising (counted (w .read)) (w .powers)
+  onward-not-rising h = is-not-rising a (counted (w .read)) (w .powers) (λ e. omega arith) h
 
 pub all-rise : (w : Walk) (rest : List Point) → 0 < w .read .count → followed w rest .read .rising ≡ (w .read .rising && rising (lastRead (w .read) ∷ rest))
 all-rise w [] h = sym (and-true (w .read .rising))
 all-rise w (a ∷ rest) h =
     ⊎-elim
     (λ k. rw (lt-ltb (w .read .last) (a .speed) k)
-    (ap (λ v. followed v rest .read .rising) (onward-next a w h k) ∙ all-rise (withNext a (counted (w .read)) (w .table)) rest (omega arith)))
+    (ap (λ v. followed v rest .read .rising) (onward-next a w h k) ∙ all-rise (withNext a (counted (w .read)) (w .powers)) rest (omega arith)))
     (λ k. rw (le-ltb (w .read .last) (a .speed) k)
-    (ap (λ v. followed v rest .read .rising) (onward-not-rising a w h k) ∙ all-rise (withNotRising (counted (w .read)) (w .table)) rest (omega arith)
+    (ap (λ v. followed v rest .read .rising) (onward-not-rising a w h k) ∙ all-rise (withNotRising (counted (w .read)) (w .powers)) rest (omega arith)
     ∙ sym (and-false (w .read .rising))))
     (either-side (w .read .last) (a .speed))

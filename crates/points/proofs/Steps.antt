@@ -19,17 +19,17 @@ use Rattle.points.specs.Steps.{Walk, walk, lastRead, counted, withFirst,
 
 -- ---- a point in range
 
-module _ (a : Point) (p : PointsRead) (table : List ℕ) where
-  is-first : p .count ≡ 1 → withPoint a (walk p table) ≡ withFirst a p table
+module _ (a : Point) (p : PointsRead) (powers : List ℕ) where
+  is-first : p .count ≡ 1 → withPoint a (walk p powers) ≡ withFirst a p powers
   unfolding withPoint
   is-first e = rw (eq-eqb (p .count) 1 e)
 
   module _ (z : p .count ≡ 1 → ⊥) where
-    pub is-next : p .last < a .speed → withPoint a (walk p table) ≡ withNext a p table
+    pub is-next : p .last < a .speed → withPoint a (walk p powers) ≡ withNext a p powers
     unfolding withPoint
     is-next h = rw (ne-eqb (p .count) 1 z, lt-ltb (p .last) (a .speed) h)
 
-    pub is-not-rising : a .speed ≤ p .last → withPoint a (walk p table) ≡ withNotRising p table
+    pub is-not-rising : a .speed ≤ p .last → withPoint a (walk p powers) ≡ withNotRising p powers
     unfolding withPoint
     is-not-rising h = rw (ne-eqb (p .count) 1 z, le-ltb (p .last) (a .speed) h)
 
@@ -40,13 +40,13 @@ module _ (a : Point) (p : PointsRead) (table : List ℕ) where
         walk (record { count = next .count; allowed = next .allowed; rising = next .rising; first = next .first; last = a .speed; power = a .power })
         (set filling (a .speed) (a .power))
 
-    pub first-set : p .count ≡ 1 → filling ≡ table
+    pub first-set : p .count ≡ 1 → filling ≡ powers
         → next ≡ record { count = p .count; allowed = p .allowed; rising = p .rising; first = a .speed; last = p .last; power = p .power }
-        → withLast ≡ withPoint a (walk p table)
+        → withLast ≡ withPoint a (walk p powers)
     first-set z f e = rw (is-first z, f, e)
 
-    pub next-set : (p .count ≡ 1 → ⊥) → p .last < a .speed → filling ≡ filled (lastRead p) a (a .speed - p .last) (p .last) table → next ≡ p
-        → withLast ≡ withPoint a (walk p table)
+    pub next-set : (p .count ≡ 1 → ⊥) → p .last < a .speed → filling ≡ filled (lastRead p) a (a .speed - p .last) (p .last) powers → next ≡ p
+        → withLast ≡ withPoint a (walk p powers)
     next-set z h f e = rw (is-next z h, f, e)
 
 -- ---- a point, by its bytes
@@ -71,11 +71,11 @@ module _ {r : List ℕ} {word : ℕ} {power : ℤ} {t u : Bool} (x : Tested r wo
     power-tested = let w = within-natural 0 1000000000 power (sym (x .power-test) ∙ both t u e .1) in (w .0, w .2)
 
     pub record-allowed : (speed watts : ℕ) (w v : Walk) → speed ≡ orZero (twos word) → watts ≡ orZero power
-        → v ≡ withPoint (point speed watts) (walk (counted (w .read)) (w .table)) → v ≡ withRecord r w
+        → v ≡ withPoint (point speed watts) (walk (counted (w .read)) (w .powers)) → v ≡ withRecord r w
     unfolding withRecord pointOf fieldAt
     record-allowed speed watts w v g h i = i ∙ rw (sym allowed-is ∙ e, g, h, x .word-is, x .power-is)
 
-  pub record-out : (t && u) ≡ false → (w : Walk) → withOutOfRange (counted (w .read)) (w .table) ≡ withRecord r w
+  pub record-out : (t && u) ≡ false → (w : Walk) → withOutOfRange (counted (w .read)) (w .powers) ≡ withRecord r w
   unfolding withRecord
   record-out e w = rw (sym allowed-is ∙ e)
 

@@ -1,18 +1,14 @@
--- The walk along the chain of points: a turn, its end and a refused link; and what its answer says to a caller.
+-- The walk along the points, beside the law of walking: what it keeps from turn to turn, what it answers, and what that says to a caller.
 use mathlib.Core.Path.{_≡_, refl, sym, _∙_, ap, subst}
 use mathlib.Core.List.{List}
-use Prim.Native.Nat.{ℕ, _+_}
+use Prim.Native.Nat.{ℕ, _≤_, _<_}
 use native.Mathlib.Omega.{arith}
 use lib.ListN.{length}
 use Rattle.rules.specs.Outcome.{Outcome, refused, given, _>>=_}
-use Rattle.rules.specs.Archive.{linkAt, nextOf, recordAt, pointKind, Entry, follow, chain, entryAt}
+use Rattle.rules.specs.Archive.{linkAt, recordAt, pointKind, Entry, chain}
 use Rattle.rules.specs.Terms.{Point}
 use Rattle.rules.specs.Settle.{pointsOf}
-use Rattle.rules.proofs.Chains.{chain-ends}
-use Rattle.rules.proofs.Folds.{gatheredFrom, gather-turn, gather-refused, gather-done}
-use Rattle.chains.specs.declared.Link.{Link}
-use Rattle.chains.specs.Answers.{linkAnswer, refusalOf}
-use Rattle.chains.proofs.Laws.{Met, NoAt, chain-met, chain-none}
+use Rattle.rules.proofs.Folds.{gatheredFrom}
 use Rattle.place.specs.declared.Place.{Place}
 use Rattle.place.specs.Places.{meant}
 use Rattle.curve.specs.declared.Curve.{Curve}
@@ -25,76 +21,58 @@ use Rattle.points.specs.Steps.{Walk, walk, noPoints, lastRead, withRecor
 use Rattle.points.proofs.Points.{stepped, record-count, record-in-range}
 use Rattle.points.proofs.Curves.{pointsFrom, end, answered}
 
--- ---- a turn
+-- ---- from turn to turn
 
-module _ (archive : List ℕ) (used last link n next : ℕ) (w v : Walk) where
-  pub record Turned : Type 0 where
-    pub gathers : gatheredFrom stepped w (chain archive used pointKind last link) ≡ gatheredFrom stepped v (chain archive used pointKind n next)
-    pub count : v .read .count ≡ w .read .count + 1
-    pub in-range : InRange (lastRead (v .read))
+-- no more points than records passed, the last one in range, and a table as long as the lent one
+pub record Kept (lent : List ℕ) (last : ℕ) (w : Walk) : Type 0 where
+  pub few : w .read .count ≤ last
+  pub in-range : InRange (lastRead (w .read))
+  pub size : length (w .powers) ≡ length lent
 
-  pub turned : Met archive used pointKind last link n → next ≡ nextOf (recordAt archive n) → InRange (lastRead (w .read))
-      → (r : List ℕ) → r ≡ recordAt archive n → v ≡ withRecord r w → Turned
-  turned m e h r f g = record {
-    gathers =
-        gather-turn stepped w (chain archive used pointKind last link) (chain archive used pointKind n next) (entryAt archive n)
-        (chain-met archive used pointKind last link n next m e)
-        ∙ ap (λ (x : Walk). gatheredFrom stepped x (chain archive used pointKind n next)) (sym s);
-    count = ap (λ (x : Walk). x .read .count) s ∙ record-count (recordAt archive n) w;
-    in-range = subst (λ (x : Walk). InRange (lastRead (x .read))) (sym s) (record-in-range (recordAt archive n) w h);
-  }
-    where
-      s : v ≡ withRecord (recordAt archive n) w
-      s = g ∙ ap (λ (x : List ℕ). withRecord x w) f
+pub kept-on : {lent : List ℕ} {last n : ℕ} {w v : Walk} (r : List ℕ) → Kept lent last w → last < n → v ≡ withRecord r w
+    → length (v .powers) ≡ length (w .powers) → Kept lent n v
+kept-on {w = w} r k rises e size = record {
+  few = omega (arith, record-count r w, ap (λ (x : Walk). x .read .count) e, k .few);
+  in-range = subst (λ (x : Walk). InRange (lastRead (x .read))) (sym e) (record-in-range r w (k .in-range));
+  size = size ∙ k .size;
+}
 
--- ---- the end, or a refused link
+-- ---- at the end
 
-module _ (archive : List ℕ) (place : Place) (first : ℕ) (starts : first ≡ linkAt (recordAt archive (place .plant)) 8) (table : List ℕ) where
-  points-are : pointsOf archive (meant archive place) ≡ pointsFrom (chain archive (place .used) pointKind (place .plant) first)
+module _ (archive : List ℕ) (place : Place) (first : ℕ) (starts : first ≡ linkAt (recordAt archive (place .plant)) 8) where
+  abbrev pointChain : Outcome (List Entry)
+  pointChain = chain archive (place .used) pointKind (place .plant) first
+
+  points-are : pointsOf archive (meant archive place) ≡ pointsFrom pointChain
   unfolding pointsOf
   points-are = rw starts
 
-  module _ (last link : ℕ) (w : Walk)
-      (inv : gatheredFrom stepped (walk noPoints table) (chain archive (place .used) pointKind (place .plant) first)
-      ≡ gatheredFrom stepped w (chain archive (place .used) pointKind last link)) where
-    pub walk-ended : length table ≡ 1001 → Low table → link ≡ 0 → (r : CurveAnswer) → r ≡ answerOf (w .read)
-        → CurveRead (pointsOf archive (meant archive place)) r (w .table)
-    walk-ended size low z r e =
-        rw (points-are, e)
-        (go (chain archive (place .used) pointKind (place .plant) first)
-        (inv ∙ gather-done stepped w (chain archive (place .used) pointKind last link) (chain-ends archive (place .used) pointKind last link z)))
-      where
-        go : (o : Outcome (List Entry)) → gatheredFrom stepped (walk noPoints table) o ≡ given w → CurveRead (pointsFrom o) (answerOf (w .read)) (w .table)
-        go (refused n) f = let x : _≡_ {A = ℕ} 0 1 = cc in absurd (omega arith)
-        go (given es) f =
-            let i : end table es ≡ w = cc in
-            subst (λ (x : Walk). CurveRead (pointsFrom (given es)) (answerOf (x .read)) (x .table)) i (answered table size low es)
+  pub walk-answers : (lent : List ℕ) {w : Walk} {r : CurveAnswer} → length lent ≡ 1001 → Low lent
+      → gatheredFrom stepped (walk noPoints lent) pointChain ≡ given w → r ≡ answerOf (w .read)
+      → CurveRead (pointsOf archive (meant archive place)) r (w .powers)
+  walk-answers lent {w} size low gathers e = rw (points-are, e) (go pointChain gathers)
+    where
+      go : (o : Outcome (List Entry)) → gatheredFrom stepped (walk noPoints lent) o ≡ given w → CurveRead (pointsFrom o) (answerOf (w .read)) (w .powers)
+      go (refused n) f = let x : _≡_ {A = ℕ} 0 1 = cc in absurd (omega arith)
+      go (given es) f =
+          let i : end lent es ≡ w = cc in
+          subst (λ (x : Walk). CurveRead (pointsFrom (given es)) (answerOf (x .read)) (x .powers)) i (answered lent size low es)
 
-    pub walk-refused : (answer : Link) → answer ≡ linkAnswer link (follow archive (place .used) pointKind last link) → NoAt answer → (link ≡ 0 → ⊥)
-        → (k : ℕ) → k ≡ refusalOf answer 0 → (left : List ℕ) → CurveRead (pointsOf archive (meant archive place)) (Refused k) left
-    unfolding _>>=_
-    walk-refused answer a none z k e left =
-        rw (points-are, e)
-        (go (chain archive (place .used) pointKind (place .plant) first)
-        (inv ∙ gather-refused stepped w (chain archive (place .used) pointKind last link) (refusalOf answer 0)
-        (chain-none archive (place .used) pointKind last link answer a none z)))
-      where
-        go : (o : Outcome (List Entry)) → gatheredFrom stepped (walk noPoints table) o ≡ refused (refusalOf answer 0)
-            → CurveRead (pointsFrom o) (Refused (refusalOf answer 0)) left
-        go (refused m) f = let i : refusalOf answer 0 ≡ m = cc in ap Refused i
-        go (given es) f = let x : _≡_ {A = ℕ} 0 1 = cc in absurd (omega arith)
+  pub chain-denies : {k n : ℕ} → pointChain ≡ refused n → k ≡ n → (left : List ℕ) → CurveRead (pointsOf archive (meant archive place)) (Refused k) left
+  unfolding _>>=_
+  chain-denies f e left = rw (points-are, f, e)
 
 -- ---- what an answer says to a caller
 
-module _ (table : List ℕ) where
+module _ (powers : List ℕ) where
   -- these points are given
   pub record PointsGiven (o : Outcome (List Point)) (curve : Curve) (links : ℕ) : Type 0 where
     pub points : List Point
     pub is : o ≡ given points
     pub count : links ≡ length points
-    pub tabulates : Tabulates curve table points
+    pub tabulates : Tabulates curve powers points
 
-  pub answer-given : (o : Outcome (List Point)) (r : CurveAnswer) (curve : Curve) (links : ℕ) → CurveRead o r table → r ≡ Read curve links
+  pub answer-given : (o : Outcome (List Point)) (r : CurveAnswer) (curve : Curve) (links : ℕ) → CurveRead o r powers → r ≡ Read curve links
       → PointsGiven o curve links
   answer-given (refused n) r curve links h e = let x : _≡_ {A = ℕ} 0 1 = cc in absurd (omega arith)
   answer-given (given points) r curve links h e =
@@ -103,9 +81,9 @@ module _ (table : List ℕ) where
         points = points;
         is = refl;
         count = cc;
-        tabulates = subst (λ (c : Curve). Tabulates c table points) (cc) (h .tabulates);
+        tabulates = subst (λ (c : Curve). Tabulates c powers points) (cc) (h .tabulates);
       }
 
-  pub answer-refused : (o : Outcome (List Point)) (r : CurveAnswer) (n : ℕ) → CurveRead o r table → r ≡ Refused n → o ≡ refused n
+  pub answer-refused : (o : Outcome (List Point)) (r : CurveAnswer) (n : ℕ) → CurveRead o r powers → r ≡ Refused n → o ≡ refused n
   answer-refused (refused m) r n h e = cc
   answer-refused (given points) r n h e = let x : _≡_ {A = ℕ} 0 1 = cc (h .is) in absurd (omega arith)

@@ -11,12 +11,12 @@ use Rattle.points.specs.declared.CurveAnswer.{CurveAnswer}
 use Rattle.points.specs.declared.CurveAnswer.the-variants as answer
 
 -- these points, read: the links followed, one to each point, and the table of their curve
-pub record PointsTabulated (points : List Point) (r : CurveAnswer) (table : List ℕ) : Type 0 where
+pub record PointsTabulated (points : List Point) (r : CurveAnswer) (powers : List ℕ) : Type 0 where
   pub curve : Curve
   pub is : r ≡ answer.Read curve (length points)
-  pub tabulates : Tabulates curve table points
+  pub tabulates : Tabulates curve powers points
 
 -- the points, or 2, 3, 9 or 10
 abbrev pub CurveRead : Outcome (List Point) → CurveAnswer → List ℕ → Type 0
-CurveRead (refused n) r table = r ≡ answer.Refused n
-CurveRead (given points) r table = PointsTabulated points r table
+CurveRead (refused n) r powers = r ≡ answer.Refused n
+CurveRead (given points) r powers = PointsTabulated points r powers

@@ -1,13 +1,12 @@
 // The power curve of a plant: its chain of points, read once into a table of powers by speed (document 01, 'Curve').
 ghost use mathlib.Core.Path.{_≡_};
-ghost use Prim.Native.Nat.{_<_};
 ghost use lib.ListN.{length};
 ghost use Rattle.rules.specs.Settle.{pointsOf};
 ghost use Rattle.place.specs.Places.{meant, Lies};
 ghost use Rattle.curve.specs.Tables.{Low};
-ghost use Rattle.curve.specs.Lines.{InRange, point};
+ghost use Rattle.curve.specs.Lines.{point};
 ghost use Rattle.points.specs.Answers.{CurveRead};
-ghost use Rattle.points.specs.Steps.{lastRead, walk, withPoint, withRecord, answerOf};
+ghost use Rattle.points.specs.Steps.{PointFits, RecordFits, walk, withPoint, withRecord, answerOf};
 use chains::Link;
 use curve::Curve;
 use place::Place;
@@ -26,9 +25,9 @@ struct PointsRead {
 }
 
 // One more point that is in range, counted already.
-fn add_point(read: PointsRead, table: &mut [u64], speed: u64, power: u64) -> PointsRead
-    requires { ⌜ (length (now table) ≡ 1001) × InRange (lastRead read) × InRange (point speed power) ⌝ }
-    ensures { λ r. ⌜ walk r (now (table .exit)) ≡ withPoint (point speed power) (walk read (now (table .entry))) ⌝ }
+fn add_point(read: PointsRead, powers: &mut [u32], speed: u64, power: u64) -> PointsRead
+    requires { ⌜ PointFits (now powers) read (point speed power) ⌝ }
+    ensures { λ r. ⌜ walk r (now (powers .exit)) ≡ withPoint (point speed power) (walk read (now (powers .entry))) ⌝ }
 {
     let mut next = read;
     if read.count == 1 {
@@ -38,19 +37,19 @@ fn add_point(read: PointsRead, table: &mut [u64], speed: u64, power: u64) -> Poi
             next.rising = false;
             return next;
         }
-        curve::fill(table, read.last, read.power, speed, power);
+        curve::fill(powers, read.last, read.power, speed, power);
     }
     let i = speed as usize;
-    table[i] = power;
+    powers[i] = power as u32;
     next.last = speed;
     next.power = power;
     next
 }
 
 // One more point, from its own 32 bytes.
-fn read_point(r: &[u8], read: PointsRead, table: &mut [u64]) -> PointsRead
-    requires { ⌜ (length (now r) ≡ 32) × (length (now table) ≡ 1001) × (read .count < 65536) × InRange (lastRead read) ⌝ }
-    ensures { λ p. ⌜ walk p (now (table .exit)) ≡ withRecord (now (r .entry)) (walk read (now (table .entry))) ⌝ }
+fn read_point(r: &[u8], read: PointsRead, powers: &mut [u32]) -> PointsRead
+    requires { ⌜ RecordFits (now r) (now powers) read ⌝ }
+    ensures { λ p. ⌜ walk p (now (powers .exit)) ≡ withRecord (now (r .entry)) (walk read (now (powers .entry))) ⌝ }
 {
     let speed = record::link_at(r, 8);
     let power = record::watt_at(r, 12);
@@ -59,7 +58,7 @@ fn read_point(r: &[u8], read: PointsRead, table: &mut [u64]) -> PointsRead
     if units::is_speed(speed) & units::is_curve_power(power) {
         return add_point(
             next,
-            table,
+            powers,
             units::speed_of(speed).0,
             units::unsigned(power),
         );
@@ -96,10 +95,10 @@ fn answer_of(read: PointsRead) -> CurveAnswer
 }
 
 // The chain of points is walked whole (2, 3), then 9, 10. A table of zeros will do.
-pub fn read_points(archive: &[u8], place: Place, table: &mut [u64]) -> CurveAnswer
+pub fn read_points(archive: &[u8], place: Place, powers: &mut [u32]) -> CurveAnswer
     requires { ⌜ Lies (now archive) place ⌝ }
-    requires { ⌜ (length (now table) ≡ 1001) × Low (now table) ⌝ }
-    ensures { λ r. ⌜ CurveRead (pointsOf (now (archive .entry)) (meant (now (archive .entry)) place)) r (now (table .exit)) ⌝ }
+    requires { ⌜ (length (now powers) ≡ 1001) × Low (now powers) ⌝ }
+    ensures { λ r. ⌜ CurveRead (pointsOf (now (archive .entry)) (meant (now (archive .entry)) place)) r (now (powers .exit)) ⌝ }
 {
     let used = place.used;
     let mut last = place.plant;
@@ -118,7 +117,7 @@ pub fn read_points(archive: &[u8], place: Place, table: &mut [u64]) -> CurveAnsw
             return CurveAnswer::Refused(chains::refusal_of(answer, 0));
         };
         let i = n as usize;
-        read = read_point(&archive[32 * i..32 * i + 32], read, table);
+        read = read_point(&archive[32 * i..32 * i + 32], read, powers);
         last = n;
         link = record::link_of(archive, n, 4);
     }

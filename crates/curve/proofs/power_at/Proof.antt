@@ -1,6 +1,7 @@
 -- `curve::power_at` meets its contract. Assumes nothing.
 use borrow.Author.Needs.{needs}
-use Rattle.curve.proofs.Readings.{says-below, says-on, says-above}
+use Rattle.curve.specs.declared.CurveReading.the-variants.{Below, On, Above}
+use Rattle.curve.proofs.Readings.{says}
 use Rattle.curve.proofs.power_at.Statement.{statement}
 use Rattle.curve.proofs.power_at.Tie as tie
 
@@ -18,25 +19,25 @@ enum-told-2 c = search needs
 
 returns : tie.Need-returns
 returns c =
-    let p = c .before .before .before .before in
-    let a = p .args in
+    let s = c .before .before .before .before in
+    let a = s .args in
     let f = c .before .before .read-curve in
-    says-below (a .curve) (a .table .now) (a .speed .0) (f .result) (f .ensures) (p .pre .1) (p .pre .2) (c .enum-told .given .1)
+    says (a .curve) (a .powers .now) (a .speed .0) (f .result) (f .ensures) (s .pre) Below (c .enum-told .given .1)
 
 returns-2 : tie.Need-returns-2
 returns-2 c =
-    let p = c .before .before .before .before .before in
-    let a = p .args in
+    let s = c .before .before .before .before .before in
+    let a = s .args in
     let f = c .before .before .before .read-curve in
     let r = c .before .reading .given in
-    says-on (a .curve) (a .table .now) (a .speed .0) (f .result) (f .ensures) (p .pre .1) (p .pre .2) (r .0 .0) (r .1)
+    says (a .curve) (a .powers .now) (a .speed .0) (f .result) (f .ensures) (s .pre) (On (r .0 .0)) (r .1)
 
 returns-3 : tie.Need-returns-3
 returns-3 c =
-    let p = c .before .before .before .before in
-    let a = p .args in
+    let s = c .before .before .before .before in
+    let a = s .args in
     let f = c .before .before .read-curve in
-    says-above (a .curve) (a .table .now) (a .speed .0) (f .result) (f .ensures) (p .pre .1) (p .pre .2) (c .enum-told2 .given .1)
+    says (a .curve) (a .powers .now) (a .speed .0) (f .result) (f .ensures) (s .pre) Above (c .enum-told2 .given .1)
 
 pub power-at-spec : {M : Type 1} → statement M
 power-at-spec =

@@ -15,19 +15,22 @@ use Rattle.curve.proofs.fill.Reads as fill-reads
 returns : tie.Need-returns
 returns c =
     let a = c .before .before .before .before .before .args in
-    sym (is-not-rising (point (a .speed) (a .power)) (a .read) (a .table .now) (c .before .before .if1 .left) (omega arith))
+    sym (is-not-rising (point (a .speed) (a .power)) (a .read) (a .powers .now) (c .before .before .if1 .left) (omega arith))
 
 fill-requires : tie.Need-fill-requires
 fill-requires c κs = search needs
 
-mul-table : tie.Need-mul-table
-mul-table c = search needs
+cast-powers : tie.Need-cast-powers
+cast-powers c = search needs
 
-same-size : (c : lts.Joined1 (fill-reads.Asked, fill-reads.Learnt) reads.Pre reads.Post) → length (c .if1 .table) ≡ length (c .before .before .before .args .table .now)
+mul-powers : tie.Need-mul-powers
+mul-powers c = search needs
+
+same-size : (c : lts.Joined1 (fill-reads.Asked, fill-reads.Learnt) reads.Pre reads.Post) → length (c .if1 .powers) ≡ length (c .before .before .before .args .powers .now)
 same-size c = ⊎-elim (λ w. ap length (w .1)) (λ w. ap length (w .7) ∙ w .4 .kept .0) (c .if1 .came)
 
-slice-write-table : tie.Need-slice-write-table
-slice-write-table c = omega (arith, same-size c)
+slice-write-powers : tie.Need-slice-write-powers
+slice-write-powers c = omega (arith, same-size c)
 
 same-length : tie.Need-same-length
 same-length c = simp length-set (same-size c)
@@ -36,10 +39,10 @@ returns-2 : tie.Need-returns-2
 returns-2 c =
     let a = c .before .before .before .args in
     ⊎-elim
-    (λ w. first-set (point (a .speed) (a .power)) (a .read) (a .table .now) (c .if1 .next) (c .if1 .table) (w .0 .taken) (w .1) (w .2))
-    (λ w. next-set (point (a .speed) (a .power)) (a .read) (a .table .now) (c .if1 .next) (c .if1 .table) (w .0 .left) (w .2 .left) (w .7 ∙ w .4 .ensures) (w .8))
+    (λ w. first-set (point (a .speed) (a .power)) (a .read) (a .powers .now) (c .if1 .next) (c .if1 .powers) (w .0 .taken) (w .1) (w .2))
+    (λ w. next-set (point (a .speed) (a .power)) (a .read) (a .powers .now) (c .if1 .next) (c .if1 .powers) (w .0 .left) (w .2 .left) (w .7 ∙ w .4 .ensures) (w .8))
     (c .if1 .came)
 
 pub add-point-spec : {M : Type 1} → statement M
 add-point-spec =
-    tie.close (tie.spec returns fill-requires mul-table slice-write-table same-length returns-2)
+    tie.close (tie.spec returns fill-requires cast-powers mul-powers slice-write-powers same-length returns-2)

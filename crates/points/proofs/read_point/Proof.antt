@@ -31,37 +31,62 @@ is-curve-power-requires : tie.Need-is-curve-power-requires
 is-curve-power-requires c κs = search needs
 
 -- the fields and their tests
-tested : (c : lts.After-is-curve-power (link-at-reads.Asked, link-at-reads.Learnt, watt-at-reads.Asked, watt-at-reads.Learnt, is-speed-reads.Asked, is-speed-reads.Learnt, is-curve-power-reads.Asked, is-curve-power-reads.Learnt, speed-of-reads.Asked, speed-of-reads.Learnt, unsigned-reads.Asked, unsigned-reads.Learnt, add-point-reads.Asked, add-point-reads.Learnt) reads.Pre reads.Post)
-    → Tested (c .before .before .before .before .before .before .before .args .r .now) (c .before .before .before .before .link-at .result) (c .before .before .before .watt-at .result .0) (c .before .is-speed .result) (c .is-curve-power .result)
-tested c = record {
-  word-is = c .before .before .before .before .link-at .ensures .0;
-  power-is = c .before .before .before .watt-at .ensures;
-  speed-test = c .before .is-speed .ensures;
-  power-test = c .is-curve-power .ensures;
-}
+tested : (c : lts.After-is-curve-power (
+  link-at-reads.Asked,
+  link-at-reads.Learnt,
+  watt-at-reads.Asked,
+  watt-at-reads.Learnt,
+  is-speed-reads.Asked,
+  is-speed-reads.Learnt,
+  is-curve-power-reads.Asked,
+  is-curve-power-reads.Learnt,
+  speed-of-reads.Asked,
+  speed-of-reads.Learnt,
+  unsigned-reads.Asked,
+  unsigned-reads.Learnt,
+  add-point-reads.Asked,
+  add-point-reads.Learnt,
+) reads.Pre reads.Post) →
+    let s = c .before .before .before in
+    Tested (s .before .before .before .before .args .r .now) (s .before .link-at .result) (s .watt-at .result .0) (c .before .is-speed .result) (c .is-curve-power .result)
+tested c =
+    let s = c .before .before .before in
+    record {
+      word-is = s .before .link-at .ensures .0;
+      power-is = s .watt-at .ensures;
+      speed-test = c .before .is-speed .ensures;
+      power-test = c .is-curve-power .ensures;
+    }
 
 speed-of-requires : tie.Need-speed-of-requires
-speed-of-requires c κs = (omega arith, speed-tested (tested (c .before .before)) (c .before .if1 .taken))
+speed-of-requires c κs = let s = c .before in (omega arith, speed-tested (tested (s .before)) (s .if1 .taken))
 
 unsigned-requires : tie.Need-unsigned-requires
-unsigned-requires c κs = power-tested (tested (c .before .before .before)) (c .before .before .if1 .taken) .0
+unsigned-requires c κs = let s = c .before .before in power-tested (tested (s .before)) (s .if1 .taken) .0
 
 add-point-requires : tie.Need-add-point-requires
-add-point-requires c κs = let low = power-tested (tested (c .before .before .before .before)) (c .before .before .before .if1 .taken) .1 in search needs
+add-point-requires c κs =
+    let s = c .before .before .before in
+    let low = power-tested (tested (s .before)) (s .if1 .taken) .1 in search needs
 
 same-length : tie.Need-same-length
 same-length c = search needs
 
 returns : tie.Need-returns
 returns c =
-    let a = c .before .before .before .before .before .before .before .before .before .before .before .before .before .before .args in
+    let u = c .before .before .before in
     let f = c .before .before .add-point in
-    record-allowed (tested (c .before .before .before .before .before .before .before)) (c .before .before .before .before .before .before .if1 .taken) (c .before .before .before .before .speed-of .result .0) (c .before .before .before .unsigned .result)
-    (walk (a .read) (a .table .now)) (walk (f .result) (f .last .1 .0))
-    (c .before .before .before .before .speed-of .ensures .0) (c .before .before .before .unsigned .ensures) (f .ensures)
+    let v = u .before .speed-of in
+    let s = u .before .before .before in
+    let a = s .before .before .before .before .before .before .before .before .args in
+    record-allowed (tested (s .before)) (s .if1 .taken) (v .result .0) (u .unsigned .result) (walk (a .read) (a .powers .now)) (walk (f .result) (f .last .1 .0))
+    (v .ensures .0) (u .unsigned .ensures) (f .ensures)
 
 returns-2 : tie.Need-returns-2
-returns-2 c = let a = c .before .before .before .before .before .before .before .before .args in record-out (tested (c .before)) (c .if1 .left) (walk (a .read) (a .table .now))
+returns-2 c =
+    let s = c .before in
+    let a = s .before .before .before .before .before .before .before .args in
+    record-out (tested s) (c .if1 .left) (walk (a .read) (a .powers .now))
 
 pub read-point-spec : {M : Type 1} → statement M
 read-point-spec =

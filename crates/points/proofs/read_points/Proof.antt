@@ -1,20 +1,18 @@
--- `points::read_points` meets its contract. The loop's invariant: what is gathered from here on is what is gathered from the chain's start.
--- Assumes nothing.
-use mathlib.Core.Path.{_≡_, refl, _∙_}
-use Prim.Native.Nat.{_-_, _≤_, _<_}
+-- `points::read_points` meets its contract. The loop's invariant: the walk along the chain, and what it keeps. Assumes nothing.
+use mathlib.Core.Path.{refl, _∙_, ap}
+use mathlib.Core.List.{List}
+use Prim.Native.Nat.{ℕ, _-_}
 use native.Mathlib.Omega.{arith}
 use borrow.Author.Needs.{needs}
 use lib.Dec.{lit≤}
-use lib.ListN.{length}
-use Rattle.rules.specs.Archive.{pointKind, chain}
+use Rattle.rules.specs.Archive.{pointKind}
 use Rattle.rules.proofs.Chains.{record-part}
 use Rattle.rules.proofs.Parts.{start-fits, end-fits, end-within, start-end, part-size}
-use Rattle.rules.proofs.Folds.{gatheredFrom}
 use Rattle.chains.proofs.Laws.{Met, met, link-nearer, no-at}
-use Rattle.curve.specs.Lines.{InRange}
-use Rattle.points.specs.Steps.{walk, noPoints, lastRead}
+use Rattle.chains.proofs.Walking.{Walking, walk-starts, walk-turns, walk-ends, walk-refused}
+use Rattle.points.specs.Steps.{walk, noPoints, withRecord}
 use Rattle.points.proofs.Points.{stepped}
-use Rattle.points.proofs.Walks.{turned, walk-ended, walk-refused}
+use Rattle.points.proofs.Walks.{Kept, kept-on, walk-answers, chain-denies}
 use Rattle.points.proofs.read_points.Statement.{statement}
 use Rattle.points.proofs.read_points.Tie as tie
 use Rattle.points.proofs.read_points.Reads as reads
@@ -26,21 +24,21 @@ use Rattle.points.proofs.answer_of.Reads as answer-of-reads
 use Rattle.points.proofs.read_point.Reads as read-point-reads
 
 abbrev Inv-loop : tie.InvT-loop
-Inv-loop archive table₀ used last₀ link₀ read₀ table last link read =
-    (gatheredFrom stepped (walk noPoints table₀) (chain archive used pointKind last₀ link₀) ≡ gatheredFrom stepped (walk read table) (chain archive used pointKind last link))
-    × (last < used)
-    × (read .count ≤ last)
-    × InRange (lastRead read)
-    × (length table ≡ length table₀)
+Inv-loop archive powers₀ used last₀ link₀ read₀ powers last link read =
+    Walking stepped archive used pointKind last₀ link₀ (walk noPoints powers₀) last link (walk read powers) × Kept powers₀ last (walk read powers)
 
 abbrev μ-loop : tie.MeasureT-loop
-μ-loop archive table₀ used last₀ link₀ read₀ table last link read = used - last
+μ-loop archive powers₀ used last₀ link₀ read₀ powers last link read = used - last
 
 link-of-requires : tie.Need-link-of-requires Inv-loop μ-loop
-link-of-requires c κs = (end-within (c .before .before .pre .0 .plant-used) (c .before .before .pre .0 .room), lit≤ tt)
+link-of-requires c κs = let lies = c .before .before .pre .0 in (end-within (lies .plant-used) (lies .room), lit≤ tt)
 
 loop-holds : tie.Need-loop-holds Inv-loop μ-loop
-loop-holds c = (refl, omega arith, omega arith, record { low-speed = omega arith; low-power = omega arith }, refl)
+loop-holds c =
+    let s = c .before .before .before in (
+      walk-starts stepped (s .args .archive .now) (s .args .place .used) pointKind (s .pre .0 .plant-used),
+      record { few = omega arith; in-range = record { low-speed = omega arith; low-power = omega arith }; size = refl },
+    )
 
 follow-requires : tie.Need-follow-requires Inv-loop μ-loop
 follow-requires c κs = c .before .before .before .before .before .pre .0 .room
@@ -52,23 +50,41 @@ refusal-of-requires : tie.Need-refusal-of-requires Inv-loop μ-loop
 refusal-of-requires c κs = search needs
 
 same-length : tie.Need-same-length Inv-loop μ-loop
-same-length c = c .before .before .before .before .loop .inv .4
+same-length c = c .before .before .before .before .loop .inv .1 .size
 
 returns : tie.Need-returns Inv-loop μ-loop
 returns c =
-    let a = c .before .before .before .before .before .before .before .before .args in
-    let l = c .before .before .before .before .loop in
     let f = c .before .before .follow in
-    let i = c .before .before .before .before .before .link-of in
-    walk-refused (a .archive .now) (a .place) (i .result) (i .ensures .0) (a .table .now) (l .last) (l .link) (walk (l .read) (l .table)) (l .inv .0)
-    (f .result) (f .ensures) (no-at (f .result) (c .before .match .keys2)) (c .before .before .before .loop-test .taken) (c .refusal-of .result) (c .refusal-of .ensures) (l .table)
+    let t = c .before .before .before in
+    let l = t .before .loop in
+    let i = t .before .before in
+    let a = i .before .before .before .args in
+    chain-denies (a .archive .now) (a .place) (i .link-of .result) (i .link-of .ensures .0)
+    (walk-refused stepped (a .archive .now) (a .place .used) pointKind (l .inv .0) (f .ensures) (no-at (f .result) (c .before .match .keys2)) (t .loop-test .taken))
+    (c .refusal-of .ensures) (l .powers)
 
 -- the record that the link leads to
-met-at : (c : lts.After-known-told (link-of-reads.Asked, link-of-reads.Learnt, follow-reads.Asked, follow-reads.Learnt, refusal-of-reads.Asked, refusal-of-reads.Learnt, read-point-reads.Asked, read-point-reads.Learnt, answer-of-reads.Asked, answer-of-reads.Learnt) reads.Pre reads.Post Inv-loop μ-loop)
-    → Met (c .before .before .before .before .before .before .before .before .before .args .archive .now) (c .before .before .before .before .before .before .before .before .before .args .place .used) pointKind (c .before .before .before .before .before .loop .last) (c .before .before .before .before .before .loop .link) (c .before .answer .given .0 .0)
+met-at : (c : lts.After-known-told (
+  link-of-reads.Asked,
+  link-of-reads.Learnt,
+  follow-reads.Asked,
+  follow-reads.Learnt,
+  refusal-of-reads.Asked,
+  refusal-of-reads.Learnt,
+  read-point-reads.Asked,
+  read-point-reads.Learnt,
+  answer-of-reads.Asked,
+  answer-of-reads.Learnt,
+) reads.Pre reads.Post Inv-loop μ-loop) →
+    let w = c .before .before .before .before .before in
+    let a = w .before .before .before .before .args in
+    Met (a .archive .now) (a .place .used) pointKind (w .loop .last) (w .loop .link) (c .before .answer .given .0 .0)
 met-at c =
-    met (c .before .before .before .before .before .before .before .before .before .args .archive .now) (c .before .before .before .before .before .before .before .before .before .args .place .used) pointKind (c .before .before .before .before .before .loop .last) (c .before .before .before .before .before .loop .link) (c .before .before .before .follow .result)
-    (c .before .before .before .follow .ensures) (c .before .answer .given .0 .0) (c .before .answer .given .1)
+    let f = c .before .before .before .follow in
+    let w = c .before .before .before .before .before in
+    let a = w .before .before .before .before .args in
+    let r = c .before .answer .given in
+    met (a .archive .now) (a .place .used) pointKind (w .loop .last) (w .loop .link) (f .result) (f .ensures) (r .0 .0) (r .1)
 
 mul-read-point : tie.Need-mul-read-point Inv-loop μ-loop
 mul-read-point c = start-fits (met-at c .below) (c .before .before .before .before .before .before .before .before .before .pre .0 .few)
@@ -90,40 +106,51 @@ part-read-point-end c = end-within (met-at c .below) (c .before .before .before 
 
 read-point-requires : tie.Need-read-point-requires Inv-loop μ-loop
 read-point-requires c κs =
-    let l = c .before .before .before .before .before .before .before .loop in
-    (part-size _ (c .before .read-point-arg .given .2), l .inv .4 ∙ c .before .before .before .before .before .before .before .before .before .before .before .pre .1 .0, omega arith, l .inv .3)
+    let l = c .before .before .before .before .before .before .before in
+    let k = l .loop .inv .1 in
+    let s = l .before .before .before .before in
+    record {
+      whole = part-size _ (c .before .read-point-arg .given .2);
+      size = k .size ∙ s .pre .1 .0;
+      few = omega (arith, k .few, l .loop .inv .0 .below, s .pre .0 .few);
+      last-in-range = k .in-range;
+    }
 
 link-of-requires-2 : tie.Need-link-of-requires-2 Inv-loop μ-loop
-link-of-requires-2 c κs = (end-within (met-at (c .before .before .before .before .before) .below) (c .before .before .before .before .before .before .before .before .before .before .before .before .before .before .pre .0 .room), lit≤ tt)
+link-of-requires-2 c κs =
+    let m = c .before .before .before .before .before in
+    (end-within (met-at m .below) (m .before .before .before .before .before .before .before .before .before .pre .0 .room), lit≤ tt)
 
 loop-less : tie.Need-loop-less Inv-loop μ-loop
 loop-less c = let m = met-at (c .before .before .before .before .before .before) in link-nearer (m .rises) (m .below)
 
 loop-again : tie.Need-loop-again Inv-loop μ-loop
 loop-again c =
-    let a = c .before .before .before .before .before .before .before .before .before .before .before .before .before .before .before .args in
-    let l = c .before .before .before .before .before .before .before .before .before .before .before .loop in
-    let n = c .before .before .before .before .before .before .before .answer .given .0 .0 in
     let f = c .before .before .before .read-point in
-    let m = met-at (c .before .before .before .before .before .before) in
-    let t = turned (a .archive .now) (a .place .used) (l .last) (l .link) n (c .link-of2 .result) (walk (l .read) (l .table)) (walk (f .result) (f .last .1 .1 .0))
-    m (c .link-of2 .ensures .0) (l .inv .3) _ (record-part (a .archive .now) n) (f .ensures) in
-    (l .inv .0 ∙ t .gathers, m .below, omega (arith, t .count, m .rises), t .in-range, f .kept .1 .1 .0 ∙ l .inv .4)
+    let r = c .before .before .before .before .before .before in
+    let m = met-at r in
+    let l = r .before .before .before .before .before .loop in
+    let a = r .before .before .before .before .before .before .before .before .before .args in
+    let n = r .before .answer .given .0 .0 in
+    let e = f .ensures ∙ ap (λ (x : List ℕ). withRecord x (walk (l .read) (l .powers))) (record-part (a .archive .now) n) in (
+      walk-turns stepped (a .archive .now) (a .place .used) pointKind (l .inv .0) m (c .link-of2 .ensures .0) e,
+      kept-on _ (l .inv .1) (m .rises) e (f .kept .1 .1 .0),
+    )
 
 answer-of-requires : tie.Need-answer-of-requires Inv-loop μ-loop
 answer-of-requires c κs = search needs
 
 same-length-2 : tie.Need-same-length-2 Inv-loop μ-loop
-same-length-2 c = c .before .before .loop .inv .4
+same-length-2 c = c .before .before .loop .inv .1 .size
 
 returns-2 : tie.Need-returns-2 Inv-loop μ-loop
 returns-2 c =
-    let p = c .before .before .before .before .before .before in
-    let a = p .args in
     let l = c .before .before .loop in
-    let i = c .before .before .before .link-of in
-    walk-ended (a .archive .now) (a .place) (i .result) (i .ensures .0) (a .table .now) (l .last) (l .link) (walk (l .read) (l .table)) (l .inv .0)
-    (p .pre .1 .0) (p .pre .1 .1) (c .before .loop-test .left) (c .answer-of .result) (c .answer-of .ensures)
+    let i = c .before .before .before in
+    let s = i .before .before .before in
+    let a = s .args in
+    walk-answers (a .archive .now) (a .place) (i .link-of .result) (i .link-of .ensures .0) (a .powers .now) (s .pre .1 .0) (s .pre .1 .1)
+    (walk-ends stepped (a .archive .now) (a .place .used) pointKind (l .inv .0) (c .before .loop-test .left)) (c .answer-of .ensures)
 
 pub read-points-spec : {M : Type 1} → statement M
 read-points-spec =
