@@ -39,7 +39,7 @@ pub enum Exact {
 }
 
 // Of a measure's quarter, from its index along the chain and its own 32 bytes.
-pub fn exact_of(terms: Terms, index: u64, reference: Reference, powers: &[u64], r: &[u8]) -> Exact
+pub fn exact_of(terms: Terms, index: u64, reference: Reference, powers: &[u32], r: &[u8]) -> Exact
     requires { ⌜ Held reference (now powers) ⌝ }
     requires { ⌜ length (now r) ≡ 32 ⌝ }
     ensures { λ x. ⌜ ((ref : book.Reference) → Means reference (now (powers .entry)) ref

@@ -46,7 +46,7 @@ pub fn walk(
     archive: &[u8],
     place: Place,
     reference: Reference,
-    powers: &[u64],
+    powers: &[u32],
     sheet: &mut [u64],
 ) -> Walked
     requires { ⌜ Lies (now archive) place ⌝ }

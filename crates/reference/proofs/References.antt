@@ -11,10 +11,9 @@ use Rattle.rules.proofs.Bounds as bounds
 use Rattle.units.specs.declared.Watt.{Watt}
 use Rattle.units.specs.declared.Irradiance.{Irradiance}
 use Rattle.curve.specs.declared.Curve.{Curve}
-use Rattle.curve.specs.Tables.{Tabulates}
 use Rattle.reference.specs.declared.Reference.{Reference}
 use Rattle.reference.specs.declared.Reference.the-variants.{OnCurve, LastMeasured, OnIrradiance, ByFactor, AsPlanned}
-use Rattle.reference.specs.References.{Means, held, UpTo, Bounded, Held, Divides}
+use Rattle.reference.specs.References.{Means, UpTo, Bounded, Held, Divides}
 
 pub up-to-small : {n : ℕ} {z : ℤ} → UpTo n z → mag z ≤ n
 up-to-small {n} h = subst (λ (y : ℤ). mag y ≤ n) (sym (h .is)) (h .low)
@@ -32,35 +31,26 @@ means-bounded (OnCurve a b pn curve) powers ref m h = rw (m .is) (record {
 })
 means-bounded (LastMeasured p0) powers ref m h = rw m h
 means-bounded (OnIrradiance a b) powers ref m h = rw m h
-means-bounded (ByFactor pn) powers ref m h = rw m (h .low)
+means-bounded (ByFactor pn) powers ref m h = rw (m .is) (h .low)
 means-bounded AsPlanned powers ref m h = rw m tt
 
-pub held-bounded : (curve : Curve) (ref : book.Reference) → bounds.Bounded ref → Bounded (held curve ref)
-held-bounded curve (book.onCurve a b pn points) h = record {
-  a-low = record { is = h .natural; low = h .a-low };
-  b-low = record { is = refl; low = h .b-low };
-  some = h .some;
-  pn-low = record { is = refl; low = h .pn-low };
-}
-held-bounded curve (book.lastMeasured p0) h = h
-held-bounded curve (book.onIrradiance a b) h = h
-held-bounded curve (book.byFactor pn) h = record { is = refl; low = h }
-held-bounded curve book.asPlanned h = tt
+pub bounded-meant : (r : Reference) (powers : List ℕ) (ref : book.Reference) → Means r powers ref → bounds.Bounded ref → Bounded r
+bounded-meant (OnCurve a b pn curve) powers ref m h =
+    let k : bounds.CurveBounds (a .0) (orZero (b .0)) (orZero (pn .0)) = subst bounds.Bounded (m .is) h in
+    record {
+      a-low = record { is = k .natural; low = k .a-low };
+      b-low = record { is = m .b-natural; low = k .b-low };
+      some = k .some;
+      pn-low = record { is = m .pn-natural; low = k .pn-low };
+    }
+bounded-meant (LastMeasured p0) powers ref m h = subst bounds.Bounded m h
+bounded-meant (OnIrradiance a b) powers ref m h = subst bounds.Bounded m h
+bounded-meant (ByFactor pn) powers ref m h = record { is = m .natural; low = subst bounds.Bounded (m .is) h }
+bounded-meant AsPlanned powers ref m h = tt
 
--- the curve whose powers are lent is that of the reference's points
-abbrev pub Tabled : Curve → List ℕ → book.Reference → Type 0
-Tabled curve powers (book.onCurve a b pn points) = Tabulates curve powers points
-Tabled curve powers (book.lastMeasured p0) = Unit {0}
-Tabled curve powers (book.onIrradiance a b) = Unit {0}
-Tabled curve powers (book.byFactor pn) = Unit {0}
-Tabled curve powers book.asPlanned = Unit {0}
-
-pub held-means : (curve : Curve) (powers : List ℕ) (ref : book.Reference) → Tabled curve powers ref → Means (held curve ref) powers ref
-held-means curve powers (book.onCurve a b pn points) t = record { points = points; is = refl; tabulates = t }
-held-means curve powers (book.lastMeasured p0) t = refl
-held-means curve powers (book.onIrradiance a b) t = refl
-held-means curve powers (book.byFactor pn) t = refl
-held-means curve powers book.asPlanned t = refl
+-- a reference in range that stands for one of the rule book
+pub held-by : {r : Reference} {powers : List ℕ} (ref : book.Reference) → Means r powers ref → bounds.Bounded ref → Held r powers
+held-by {r} {powers} ref m h = record { bounded = bounded-meant r powers ref m h; ref = ref; means = m }
 
 -- ---- by the variant that the code was told
 
@@ -86,7 +76,7 @@ module _ {r : Reference} (h : Bounded r) where
       subst (λ (x : Reference). Divides x (b .0)) (sym e) (record { is = λ powers ref m. rw m; some = k .some; small = omega (arith, k .b-low) })
 
   pub divides-factor : {pn : Watt} → r ≡ ByFactor pn → Divides r 10000
-  divides-factor e = subst (λ (x : Reference). Divides x 10000) (sym e) (record { is = λ powers ref m. rw m; some = omega arith; small = omega arith })
+  divides-factor e = subst (λ (x : Reference). Divides x 10000) (sym e) (record { is = λ powers ref m. rw (m .is); some = omega arith; small = omega arith })
 
   pub divides-planned : r ≡ AsPlanned → Divides r 1
   divides-planned e = subst (λ (x : Reference). Divides x 1) (sym e) (record { is = λ powers ref m. rw m; some = omega arith; small = omega arith })

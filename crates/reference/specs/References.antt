@@ -20,36 +20,35 @@ use Rattle.reference.specs.declared.Numerator.the-variants as numerator
 
 -- ---- what it stands for
 
+-- 0 or more
+abbrev pub Natural : ℤ → Type 0
+Natural z = z ≡ pos (orZero z)
+
 -- on the curve whose powers by speed are lent beside it, that of these points
 pub record MeansOnCurve (a b pn : Watt) (curve : Curve) (powers : List ℕ) (ref : book.Reference) : Type 0 where
   pub points : List Point
   pub is : ref ≡ book.onCurve (a .0) (orZero (b .0)) (orZero (pn .0)) points
+  pub b-natural : Natural (b .0)
+  pub pn-natural : Natural (pn .0)
   pub tabulates : Tabulates curve powers points
+
+pub record MeansByFactor (pn : Watt) (ref : book.Reference) : Type 0 where
+  pub is : ref ≡ book.byFactor (orZero (pn .0))
+  pub natural : Natural (pn .0)
 
 -- a reference of the rule book
 abbrev pub Means : Reference → List ℕ → book.Reference → Type 0
 Means (OnCurve a b pn curve) powers ref = MeansOnCurve a b pn curve powers ref
 Means (LastMeasured p0) powers ref = ref ≡ book.lastMeasured (p0 .0)
 Means (OnIrradiance a b) powers ref = ref ≡ book.onIrradiance (a .0) (b .0)
-Means (ByFactor pn) powers ref = ref ≡ book.byFactor (orZero (pn .0))
+Means (ByFactor pn) powers ref = MeansByFactor pn ref
 Means AsPlanned powers ref = ref ≡ book.asPlanned
-
--- the same reference in the code, on this curve where it needs one
-abbrev watt : ℤ → Watt
-watt z = record { 0 = z }
-
-abbrev pub held : Curve → book.Reference → Reference
-held curve (book.onCurve a b pn points) = OnCurve (watt a) (watt (pos b)) (watt (pos pn)) curve
-held curve (book.lastMeasured p0) = LastMeasured (watt p0)
-held curve (book.onIrradiance a b) = OnIrradiance (watt a) (record { 0 = b })
-held curve (book.byFactor pn) = ByFactor (watt (pos pn))
-held curve book.asPlanned = AsPlanned
 
 -- ---- its numbers
 
 -- 0 to n
 pub record UpTo (n : ℕ) (z : ℤ) : Type 0 where
-  pub is : z ≡ pos (orZero z)
+  pub is : Natural z
   pub low : orZero z ≤ n
 
 pub record OnCurveBounds (a b pn : Watt) : Type 0 where

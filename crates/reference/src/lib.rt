@@ -79,7 +79,7 @@ fn capped(t: i64, cap: i64) -> i64
 }
 
 // Wind Spitz: A × curve power, capped at Pn × B.
-fn on_curve(a: Watt, b: Watt, pn: Watt, curve: Curve, powers: &[u64], r: &[u8]) -> Numerator
+fn on_curve(a: Watt, b: Watt, pn: Watt, curve: Curve, powers: &[u32], r: &[u8]) -> Numerator
     requires { ⌜ Held (Reference.OnCurve a b pn curve) (now powers) ⌝ }
     requires { ⌜ length (now r) ≡ 32 ⌝ }
     ensures { λ n. ⌜ ((ref : book.Reference) (q : Quarter) → Means (Reference.OnCurve a b pn curve) (now (powers .entry)) ref
@@ -138,7 +138,7 @@ fn as_planned(r: &[u8]) -> Numerator
 // Of a measure's quarter, from its index along the chain and its own 32 bytes.
 pub fn numerator_of(
     reference: Reference,
-    powers: &[u64],
+    powers: &[u32],
     terms: Terms,
     index: u64,
     r: &[u8],

@@ -68,7 +68,7 @@ unfolding quarterOf
 returns-4 c = let s = c .before .before .before .before .before .before .before .before in
     let q = quarterOf (meaning (s .args .terms)) (s .args .index) (s .args .r .now) in
     λ ref. referred-told (c .before .before .before .before .reference4 .given .1) (s .args .powers .now) ref q (c .by-factor .result)
-    (λ m. referred-as ref q (c .by-factor .result) m (c .by-factor .ensures q (c .before .before .month-of .ensures) (c .before .quarter-of-day-of .ensures)))
+    (λ m. referred-as ref q (c .by-factor .result) (m .is) (c .by-factor .ensures q (c .before .before .month-of .ensures) (c .before .quarter-of-day-of .ensures)))
 
 returns-5 : tie.Need-returns-5
 unfolding quarterOf

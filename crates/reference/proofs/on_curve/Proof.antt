@@ -38,7 +38,7 @@ mul-capped : tie.Need-mul-capped
 mul-capped c = let s = c .before .before .before .before .before .before .before .before .before .before .before in
     let h = up-to-small (s .pre .0 .bounded .a-low) in
     let p = c .before .before .before .before .power-at in
-    times-fits (s .args .a .0) (p .result .0) _ _ _ 4000000001 1000000000 (back (s .args .a .0) (omega (arith, h))) (back (p .result .0) (c .struct-told2 .given .0 .1)) (p .ensures .1) (omega (arith, h)) (p .ensures .2) (omega arith)
+    times-fits (s .args .a .0) (p .result .0) _ _ _ 4000000001 1000000000 (back (s .args .a .0) (omega (arith, h))) (back (p .result .0) (c .struct-told2 .given .0 .1)) (p .ensures .natural) (omega (arith, h)) (p .ensures .low) (omega arith)
 
 mul-capped-2 : tie.Need-mul-capped-2
 mul-capped-2 c = let s = c .before .before .before .before .before .before .before .before .before .before .before .before .before .before .before in
@@ -61,10 +61,10 @@ returns-2 c = let s = c .before .before .before .before .before .before .before 
     λ ref q m e. referred-as ref q (over.Of _) (m .is)
     (curve-referred q (a .a) (a .b) (a .pn) (m .points) k (p .result .0) _
     (in-range isSpeed (c .before .before .before .before .before .before .before .before .before .before .before .before .is-speed .ensures) (ap twos w ∙ sym e) (c .before .before .before .before .before .before .before .before .before .before .before .if1 .left))
-    (p .ensures .0 (m .points) (m .tabulates)
+    (p .ensures .is (m .points) (m .tabulates)
     ∙ ap (λ (x : ℕ). pos (curvePower (m .points) x)) (c .before .before .before .before .before .before .before .before .before .before .speed-of .ensures .0 ∙ ap orZero (ap twos w ∙ sym e)))
     (back (c .capped .result) (c .capped .ok) ∙ c .capped .ensures ∙ ap₂ smaller
-    (times-is (a .a .0) (p .result .0) _ _ _ 4000000001 1000000000 (back (a .a .0) (omega (arith, h))) (back (p .result .0) (c .before .before .before .before .before .struct-told2 .given .0 .1)) (p .ensures .1) (omega (arith, h)) (p .ensures .2) (omega arith))
+    (times-is (a .a .0) (p .result .0) _ _ _ 4000000001 1000000000 (back (a .a .0) (omega (arith, h))) (back (p .result .0) (c .before .before .before .before .before .struct-told2 .given .0 .1)) (p .ensures .natural) (omega (arith, h)) (p .ensures .low) (omega arith))
     (times-is (a .pn .0) (a .b .0) _ _ _ 1000000001 4000000000 (back (a .pn .0) (omega (arith, n))) (back (a .b .0) (omega (arith, up-to-small (k .b-low)))) (k .b-low .is) (omega (arith, n)) (k .b-low .low) (omega arith))))
 
 pub on-curve-spec : {M : Type 1} → statement M
