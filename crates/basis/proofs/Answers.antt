@@ -13,24 +13,26 @@ use Rattle.rules.specs.Outcome.{Outcome, refused, given, _>>=_, _>>_, require}
 use Rattle.rules.specs.Refusals.{badCount, outOfRange, tooFewUsable, divisorZero}
 use Rattle.rules.specs.Numbers.{all, keep, sum, orZero}
 use Rattle.rules.specs.Archive.{Entry, chain, beforeKind, firstBefore}
-use Rattle.rules.specs.Terms.{Point, markAllowed, nominalPower}
-use Rattle.rules.specs.Reference.{curvePower}
+use Rattle.rules.specs.Terms.{Point, markAllowed}
+use Rattle.rules.specs.Reference.{curvePower, onCurve, lastMeasured, onIrradiance}
 use Rattle.rules.specs.Settle.{Place, Basis, beforesOf, marked, usable, upToUsed, totalMeasured, windBasis, firstMarked, pauschalBasis, solarBasis}
 use Rattle.rules.proofs.Folds.{gatheredFrom}
 use Rattle.rules.proofs.Ints.{biased-eq}
 use Rattle.units.specs.declared.Watt.{Watt}
-use Rattle.energy.specs.declared.reference.Reference.the-variants.{OnCurve, LastMeasured, OnIrradiance}
-use Rattle.comparison.specs.declared.Purpose.{Purpose}
-use Rattle.comparison.specs.declared.Purpose.the-variants.{Four, First, All}
+use Rattle.curve.specs.declared.Curve.{Curve}
+use Rattle.curve.specs.Tables.{Tabulates}
+use Rattle.reference.specs.declared.Reference.{Reference}
+use Rattle.reference.specs.declared.Reference.the-variants.{OnCurve, LastMeasured, OnIrradiance}
+use Rattle.reference.specs.References.{Means}
 use Rattle.comparison.specs.declared.Sums.{Sums}
-use Rattle.comparison.specs.Sums.{powerBias}
 use Rattle.comparison.specs.declared.Walk.{Walk}
 use Rattle.comparison.specs.declared.Gathered.{Gathered}
 use Rattle.comparison.specs.declared.Gathered.the-variants as gathered
+use Rattle.comparison.specs.Sums.{Choice, firstFour, firstOne, everyOne, powerBias}
 use Rattle.comparison.specs.Walks.{noSums, start, steppedBy, RoomIn, passed, gatheredOf, gatheredAnswer, RoomGathered}
 use Rattle.basis.specs.declared.Based.{Based}
 use Rattle.basis.specs.declared.Based.the-variants.{On, Refused}
-use Rattle.basis.specs.Based.{basedAnswer, windOf, solarOf}
+use Rattle.basis.specs.Bases.{Found, Finds, windOf, solarOf}
 use Rattle.basis.proofs.Rest.{rest, from, from-is}
 
 -- ---- the basis from what is gathered
@@ -43,31 +45,31 @@ tested-bind true false es f = refl
 tested-bind false u es f = refl
 
 -- a basis that is what the walk gathers from its start
-module _ (purpose : Purpose) (points : List Point) (extra : ℕ) (f : List Entry → Outcome Basis)
-    (starts : (es : List Entry) → rest purpose points (extra + length es) noSums (marked es) ≡ f es)
+module _ (choice : Choice) (extra : ℕ) (f : List Entry → Outcome Basis)
+    (starts : (es : List Entry) → rest choice (extra + length es) noSums (marked es) ≡ f es)
     (archive : List ℕ) (place : Place) where
   from-start : (es : List Entry)
-      → from purpose points extra start es
+      → from choice extra start es
       ≡ (require (leb (length es) 96) badCount
-      >> (require (all (λ e. markAllowed (e .bytes)) es) outOfRange >> rest purpose points (extra + length es) noSums (marked es)))
+      >> (require (all (λ e. markAllowed (e .bytes)) es) outOfRange >> rest choice (extra + length es) noSums (marked es)))
   from-start es = rw (zero-add (length es))
 
-  based-is : (beforesOf archive place >>= f) ≡ (gatheredOf purpose points archive place >>= λ v. rest purpose points (extra + v .count) (v .sums) [])
+  based-is : (beforesOf archive place >>= f) ≡ (gatheredOf choice archive place >>= λ v. rest choice (extra + v .count) (v .sums) [])
   unfolding beforesOf _>>=_
   based-is = go (chain archive (place .used) beforeKind (place .measure .number) (firstBefore (place .measure .bytes)))
     where
       go : (o : Outcome (List Entry))
           → ((o >>= λ es. require (leb (length es) 96) badCount >> (require (all (λ e. markAllowed (e .bytes)) es) outOfRange >> given es)) >>= f)
-          ≡ ((gatheredFrom (steppedBy purpose points) start o >>= passed) >>= λ v. rest purpose points (extra + v .count) (v .sums) [])
+          ≡ ((gatheredFrom (steppedBy choice) start o >>= passed) >>= λ v. rest choice (extra + v .count) (v .sums) [])
       go (refused n) = refl
       go (given es) =
           tested-bind (leb (length es) 96) (all (λ e. markAllowed (e .bytes)) es) es f
           ∙ rw (← starts es) (sym (from-start es))
-          ∙ from-is purpose points extra start es
+          ∙ from-is choice extra start es
 
 -- wind Spitz
 module _ (pn : ℕ) (points : List Point) where
-  wind-starts : (es : List Entry) → rest (Four pn) points (length points + length es) noSums (marked es) ≡ windBasis pn points es
+  wind-starts : (es : List Entry) → rest (firstFour pn points) (length points + length es) noSums (marked es) ≡ windBasis pn points es
   unfolding rest windBasis
   wind-starts es =
       let four = keep (usable pn) (upToUsed (usable pn) 4 (marked es)) in rw (
@@ -76,21 +78,21 @@ module _ (pn : ℕ) (points : List Point) where
         +ℤ-idl (totalMeasured four),
       )
 
-  pub wind-is : (archive : List ℕ) (place : Place) → pn ≡ nominalPower (place .plant .bytes)
-      → windOf archive place points ≡ (gatheredOf (Four pn) points archive place >>= λ v. rest (Four pn) points (length points + v .count) (v .sums) [])
-  wind-is archive place e = rw (← e) (based-is (Four pn) points (length points) (windBasis pn points) wind-starts archive place)
+  pub wind-is : (archive : List ℕ) (place : Place) → pn ≡ place .terms .nominalPower
+      → windOf archive place points ≡ (gatheredOf (firstFour pn points) archive place >>= λ v. rest (firstFour pn points) (length points + v .count) (v .sums) [])
+  wind-is archive place e = rw (← e) (based-is (firstFour pn points) (length points) (windBasis pn points) wind-starts archive place)
 
 -- wind and other Pauschal
-pauschal-starts : (es : List Entry) → rest First [] (0 + length es) noSums (marked es) ≡ firstMarked (marked es) (length es)
+pauschal-starts : (es : List Entry) → rest firstOne (0 + length es) noSums (marked es) ≡ firstMarked (marked es) (length es)
 unfolding rest
 pauschal-starts es = rw (zero-add (length es))
 
 pub pauschal-is : (archive : List ℕ) (place : Place)
-    → pauschalBasis archive place ≡ (gatheredOf First [] archive place >>= λ v. rest First [] (0 + v .count) (v .sums) [])
-pauschal-is archive place = based-is First [] 0 (λ es. firstMarked (marked es) (length es)) pauschal-starts archive place
+    → pauschalBasis archive place ≡ (gatheredOf firstOne archive place >>= λ v. rest firstOne (0 + v .count) (v .sums) [])
+pauschal-is archive place = based-is firstOne 0 (λ es. firstMarked (marked es) (length es)) pauschal-starts archive place
 
 -- solar Spitz
-solar-starts : (es : List Entry) → rest All [] (0 + length es) noSums (marked es) ≡ solarBasis (marked es) (length es)
+solar-starts : (es : List Entry) → rest everyOne (0 + length es) noSums (marked es) ≡ solarBasis (marked es) (length es)
 unfolding rest solarBasis
 solar-starts es = rw (
   zero-add (length es),
@@ -100,10 +102,17 @@ solar-starts es = rw (
 )
 
 pub solar-is : (archive : List ℕ) (place : Place)
-    → solarOf archive place ≡ (gatheredOf All [] archive place >>= λ v. rest All [] (0 + v .count) (v .sums) [])
-solar-is archive place = based-is All [] 0 (λ es. solarBasis (marked es) (length es)) solar-starts archive place
+    → solarOf archive place ≡ (gatheredOf everyOne archive place >>= λ v. rest everyOne (0 + v .count) (v .sums) [])
+solar-is archive place = based-is everyOne 0 (λ es. solarBasis (marked es) (length es)) solar-starts archive place
 
 -- ---- the code's answer
+
+module _ (o : Outcome Basis) (powers : List ℕ) (r : Based) where
+  pub finds-refused : (n : ℕ) → o ≡ refused n → r ≡ Refused n → Finds o powers r
+  finds-refused n e i = subst (λ (x : Outcome Basis). Finds x powers r) (sym e) i
+
+  pub finds-given : (b : Basis) → o ≡ given b → Found b powers r → Finds o powers r
+  finds-given b e i = subst (λ (x : Outcome Basis). Finds x powers r) (sym e) i
 
 -- what is gathered, by the answer of the walk
 module _ (o : Outcome Walk) (x : Gathered) (a : x ≡ gatheredAnswer o) where
@@ -121,79 +130,82 @@ module _ (o : Outcome Walk) (x : Gathered) (a : x ≡ gatheredAnswer o) where
       go (refused k) b = ap refused (cc)
       go (given v) b = let z : _≡_ {A = ℕ} 0 1 = cc in absurd (omega arith)
 
-  module _ (basis : Outcome Basis) (k : Walk → Outcome Basis) (is : basis ≡ (o >>= k)) where
-    pub based-refused : (n : ℕ) → x ≡ gathered.Refused n → Refused n ≡ basedAnswer basis
+  module _ (basis : Outcome Basis) (k : Walk → Outcome Basis) (is : basis ≡ (o >>= k)) (powers : List ℕ) where
+    pub based-refused : (n : ℕ) → x ≡ gathered.Refused n → Finds basis powers (Refused n)
     unfolding _>>=_
-    based-refused n t = rw (is, gathered-refused n t)
+    based-refused n t = finds-refused basis powers (Refused n) n (rw (is, gathered-refused n t)) refl
 
-    pub based-of : (w : Walk) → x ≡ gathered.Of w → (r : Based) → r ≡ basedAnswer (k w) → r ≡ basedAnswer basis
+    pub based-of : (w : Walk) → x ≡ gathered.Of w → (r : Based) → Finds (k w) powers r → Finds basis powers r
     unfolding _>>=_
-    based-of w t r e = e ∙ rw (is, gathered-of w t)
+    based-of w t r f = subst (λ (y : Outcome Basis). Finds y powers r) (sym (rw (is, gathered-of w t))) f
 
 pub room-of : (x : Gathered) (w : Walk) → x ≡ gathered.Of w → RoomGathered x → RoomIn w × (w .count ≤ 96)
 room-of x w e h = subst RoomGathered e h
 
--- a power that isn't below zero, as a natural number
-pub natural-told : (u n : ℕ) (z : ℤ) → u ≡ orZero z → z ≡ pos n → (u ≡ n) × (z ≡ pos u)
-natural-told u n z e f = let i : u ≡ n = e ∙ ap orZero f in (i, f ∙ ap pos (sym i))
-
--- a power by its number
-abbrev watt : ℤ → Watt
-watt z = record { 0 = z }
-
-same-watt : (w : Watt) (z : ℤ) → w .0 ≡ z → w ≡ watt z
-same-watt w z e = ap (λ (y : ℤ). watt y) e
-
-natural : (n : ℕ) → pos n ≡ subℕ n 0
-natural n = biased-eq n 0 (pos n) (omega arith)
+-- a basis of the code by its parts
+pub found-on : {r : Reference} {links : ℕ} (powers : List ℕ) (b : Basis) → Means r powers (b .reference) → links ≡ b .links
+    → Found b powers (On (record { reference = r; links = links }))
+found-on {r} {links} powers b m e = record { basis = record { reference = r; links = links }; is = refl; stands = record { means = m; links-are = e } }
 
 -- after the walk: 11, then 12
-module _ (links : ℕ) (s : Sums) where
+module _ (links : ℕ) (s : Sums) (powers : List ℕ) where
   none : (n : ℕ) → n + 0 ≡ n
   none n = omega arith
 
+  natural : (n : ℕ) → subℕ n 0 ≡ pos n
+  natural n = sym (biased-eq n 0 (pos n) (omega arith))
+
   module _ (pn : ℕ) (points : List Point) where
-    pub four-few : (s .used ≡ 4 → ⊥) → Refused tooFewUsable ≡ basedAnswer (rest (Four pn) points links s [])
+    pub four-few : (s .used ≡ 4 → ⊥) → Finds (rest (firstFour pn points) links s []) powers (Refused tooFewUsable)
     unfolding rest _>>_ require
-    four-few z = rw (none (s .used), ne-eqb (s .used) 4 z)
+    four-few z = finds-refused _ powers _ tooFewUsable (rw (none (s .used), ne-eqb (s .used) 4 z)) refl
 
     module _ (enough : s .used ≡ 4) where
-      pub four-zero : s .b ≡ 0 → Refused divisorZero ≡ basedAnswer (rest (Four pn) points links s [])
+      pub four-zero : s .b ≡ 0 → Finds (rest (firstFour pn points) links s []) powers (Refused divisorZero)
       unfolding rest _>>_ require
-      four-zero z = rw (none (s .used), eq-eqb (s .used) 4 enough, none (s .b), le-ltb 0 (s .b) (omega arith))
+      four-zero z = finds-refused _ powers _ divisorZero (rw (none (s .used), eq-eqb (s .used) 4 enough, none (s .b), le-ltb 0 (s .b) (omega arith))) refl
 
-      pub four-on : (s .b ≡ 0 → ⊥) → (a b p : Watt) → a .0 ≡ subℕ (s .a) 0 → b .0 ≡ subℕ (s .b) 0 → p .0 ≡ pos pn
-          → On (OnCurve a b p) links ≡ basedAnswer (rest (Four pn) points links s [])
+      pub four-on : (s .b ≡ 0 → ⊥) → (a b p : Watt) (curve : Curve) → Tabulates curve powers points
+          → a .0 ≡ subℕ (s .a) 4000000000 → b .0 ≡ subℕ (s .b) 0 → p .0 ≡ pos (orZero (p .0)) → orZero (p .0) ≡ pn
+          → Finds (rest (firstFour pn points) links s []) powers (On (record { reference = OnCurve a b p curve; links = links }))
       unfolding rest _>>_ require
-      four-on z a b p ea eb ep =
-          rw (none (s .used), eq-eqb (s .used) 4 enough, none (s .b), lt-ltb 0 (s .b) (omega arith), none (s .a))
-          (rw (same-watt a (pos (s .a)) (ea ∙ sym (natural (s .a))), same-watt b (pos (s .b)) (eb ∙ sym (natural (s .b))), same-watt p (pos pn) ep))
+      four-on z a b p curve t ea eb np ep =
+          let four : powerBias * s .used ≡ 4000000000 = omega arith in
+          let nb : b .0 ≡ pos (s .b) = eb ∙ natural (s .b) in
+          finds-given _ powers _ (record { reference = onCurve (subℕ (s .a) 4000000000) (s .b) pn points; links = links })
+          (rw (none (s .used), eq-eqb (s .used) 4 enough, none (s .b), lt-ltb 0 (s .b) (omega arith), four, +ℤ-idr (subℕ (s .a) 4000000000)))
+          (found-on powers _ (record {
+            points = points;
+            is = rw (ea, ep, ap orZero nb);
+            b-natural = nb ∙ ap (λ (y : ℤ). pos (orZero y)) (sym nb);
+            pn-natural = np;
+            tabulates = t;
+          }) refl)
 
-  pub first-few : s .used ≡ 0 → Refused tooFewUsable ≡ basedAnswer (rest First [] links s [])
+  pub first-few : s .used ≡ 0 → Finds (rest firstOne links s []) powers (Refused tooFewUsable)
   unfolding rest firstMarked
-  first-few z = rw (eq-eqb (s .used) 0 z)
+  first-few z = finds-refused _ powers _ tooFewUsable (rw (eq-eqb (s .used) 0 z)) refl
 
-  pub first-on : (s .used ≡ 0 → ⊥) → (p : Watt) → p .0 ≡ subℕ (s .a) powerBias → On (LastMeasured p) links ≡ basedAnswer (rest First [] links s [])
+  pub first-on : (s .used ≡ 0 → ⊥) → (p : Watt) → p .0 ≡ subℕ (s .a) powerBias
+      → Finds (rest firstOne links s []) powers (On (record { reference = LastMeasured p; links = links }))
   unfolding rest
-  first-on z p e = rw (ne-eqb (s .used) 0 z, same-watt p (subℕ (s .a) powerBias) e)
+  first-on z p e =
+      finds-given _ powers _ (record { reference = lastMeasured (subℕ (s .a) powerBias); links = links }) (rw (ne-eqb (s .used) 0 z))
+      (found-on powers _ (ap lastMeasured (sym e)) refl)
 
-  pub all-few : s .used ≡ 0 → Refused tooFewUsable ≡ basedAnswer (rest All [] links s [])
+  pub all-few : s .used ≡ 0 → Finds (rest everyOne links s []) powers (Refused tooFewUsable)
   unfolding rest _>>_ require
-  all-few z = rw (none (s .used), lt-leb 1 (s .used) (omega arith))
+  all-few z = finds-refused _ powers _ tooFewUsable (rw (none (s .used), lt-leb 1 (s .used) (omega arith))) refl
 
   module _ (enough : s .used ≡ 0 → ⊥) where
-    pub all-zero : s .b ≡ 0 → Refused divisorZero ≡ basedAnswer (rest All [] links s [])
+    pub all-zero : s .b ≡ 0 → Finds (rest everyOne links s []) powers (Refused divisorZero)
     unfolding rest _>>_ require
-    all-zero z = rw (none (s .used), le-leb 1 (s .used) (omega arith), none (s .b), le-ltb 0 (s .b) (omega arith))
+    all-zero z = finds-refused _ powers _ divisorZero (rw (none (s .used), le-leb 1 (s .used) (omega arith), none (s .b), le-ltb 0 (s .b) (omega arith))) refl
 
     pub all-on : (s .b ≡ 0 → ⊥) → (a : Watt) → a .0 ≡ subℕ (s .a) (powerBias * s .used)
-        → On (OnIrradiance a (record { 0 = s .b })) links ≡ basedAnswer (rest All [] links s [])
+        → Finds (rest everyOne links s []) powers (On (record { reference = OnIrradiance a (record { 0 = s .b }); links = links }))
     unfolding rest _>>_ require
-    all-on z a e = rw (
-      none (s .used),
-      le-leb 1 (s .used) (omega arith),
-      none (s .b),
-      lt-ltb 0 (s .b) (omega arith),
-      +ℤ-idr (subℕ (s .a) (powerBias * s .used)),
-      same-watt a (subℕ (s .a) (powerBias * s .used)) e,
-    )
+    all-on z a e =
+        finds-given _ powers _ (record { reference = onIrradiance (subℕ (s .a) (powerBias * s .used)) (s .b); links = links })
+        (rw (none (s .used), le-leb 1 (s .used) (omega arith), none (s .b), lt-ltb 0 (s .b) (omega arith), +ℤ-idr (subℕ (s .a) (powerBias * s .used))))
+        (found-on powers _ (ap (λ (y : ℤ). onIrradiance y (s .b)) (sym e)) refl)

@@ -1,4 +1,2 @@
 pub mod Rest
 pub mod Answers
-pub mod Lines
-pub mod Laws

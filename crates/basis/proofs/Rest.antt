@@ -5,9 +5,8 @@ use mathlib.Core.List.{List, [], _∷_, map}
 use Prim.Native.Nat.{ℕ, suc, _+_, _*_, _-_}
 use native.Mathlib.Omega.{arith}
 use borrow.Author.Tests.{ltb-true, ltb-false, lt-leb, ne-eqb}
-use lib.Dec.{T, eqb, leb, ltb}
-use lib.IntN.{ℤ, pos, negsuc, subℕ, _+ℤ_, _*ℤ_, +ℤ-assoc, pos-ne-negsuc}
-use lib.Signed.{leZ, leZ-yes}
+use lib.Dec.{eqb, leb, ltb}
+use lib.IntN.{ℤ, pos, subℕ, _+ℤ_, +ℤ-assoc}
 use lib.ListN.{length}
 use Rattle.rules.specs.Outcome.{Outcome, refused, given, _>>=_, _>>_, require}
 use Rattle.rules.specs.Refusals.{badCount, outOfRange, tooFewUsable, divisorZero}
@@ -17,29 +16,26 @@ use Rattle.rules.specs.Terms.{Point, Before, isPower, isSpeed, isIrradiance, is
 use Rattle.rules.specs.Reference.{curvePower, onCurve, lastMeasured, onIrradiance}
 use Rattle.rules.specs.Settle.{Basis, marked, tenPercent, usable, upToUsed, totalMeasured, firstMarked}
 use Rattle.rules.proofs.Folds.{gathered}
-use Rattle.rules.proofs.Ints.{biased-add, biased-eq, orZero-add, le-parts}
+use Rattle.rules.proofs.Ints.{biased-add, biased-eq, orZero-add}
 use Rattle.rules.proofs.Ranges.{within-signed}
 use Rattle.rules.proofs.Sound.{both}
-use Rattle.comparison.specs.declared.Purpose.{Purpose}
-use Rattle.comparison.specs.declared.Purpose.the-variants.{Four, First, All}
 use Rattle.comparison.specs.declared.Sums.{Sums}
-use Rattle.comparison.specs.Sums.{powerBias, raised, taken}
-use Rattle.comparison.proofs.Taken.{ten-above, ten-under}
+use Rattle.comparison.specs.Sums.{Choice, firstFour, firstOne, everyOne, powerBias, raised, taken}
 use Rattle.comparison.specs.declared.Walk.{Walk}
 use Rattle.comparison.specs.Walks.{withTaken, stepped, steppedBy, passed}
 
-unfoldable pub rest : Purpose → List Point → ℕ → Sums → List Before → Outcome Basis
-rest (Four pn) points links s xs =
+unfoldable pub rest : Choice → ℕ → Sums → List Before → Outcome Basis
+rest (firstFour pn points) links s xs =
     let tested = upToUsed (usable pn) (4 - s .used) xs in
     let four = keep (usable pn) tested in
     let b = s .b + sum (map (λ x. curvePower points (orZero (x .weather))) four) in do
       require (all (λ x. isPower (x .measured)) tested && all (λ x. isSpeed (x .weather)) (keep (tenPercent pn) tested)) outOfRange
       require (eqb (s .used + length four) 4) tooFewUsable
       require (ltb 0 b) divisorZero
-      given (record { reference = onCurve (pos (s .a) +ℤ totalMeasured four) b pn points; links = links })
-rest First points links s xs =
+      given (record { reference = onCurve (subℕ (s .a) (powerBias * s .used) +ℤ totalMeasured four) b pn points; links = links })
+rest firstOne links s xs =
     cond (eqb (s .used) 0) (firstMarked xs links) (given (record { reference = lastMeasured (subℕ (s .a) powerBias); links = links }))
-rest All points links s xs =
+rest everyOne links s xs =
     let b = s .b + sum (map (λ x. orZero (x .weather)) xs) in do
       require (all (λ x. isPower (x .measured) && isIrradiance (x .weather)) xs) outOfRange
       require (leb 1 (s .used + length xs)) tooFewUsable
@@ -59,21 +55,6 @@ one-more n m = omega arith
 add-more : (n m k : ℕ) → n + (m + k) ≡ n + m + k
 add-more n m k = omega arith
 
--- a power that meets the 10 % test isn't below zero
-pub tenth-natural : (pn : ℕ) (z : ℤ) → leZ (pos pn) (pos 10 *ℤ z) ≡ true → z ≡ pos (orZero z)
-tenth-natural pn (pos n) e = refl
-tenth-natural pn (negsuc n) e =
-    absurd (omega (
-      arith,
-      le-parts {a = pos pn} {b = pos 10 *ℤ negsuc n} (leZ-yes (subst T (sym e) tt)),
-      ten-above (negsuc n),
-      ten-under (negsuc n),
-    ))
-
-natural-more : (a : ℕ) (z t : ℤ) → z ≡ pos (orZero z) → pos a +ℤ (z +ℤ t) ≡ pos (a + orZero z) +ℤ t
-natural-more a (pos n) t e = sym (+ℤ-assoc (pos a) (pos n) t)
-natural-more a (negsuc n) t e = absurd (pos-ne-negsuc 0 n (sym e))
-
 pub raised-back : (z : ℤ) → isPower z ≡ true → z ≡ subℕ (raised z) powerBias
 raised-back z e = biased-eq (raised z) powerBias z (omega (arith, within-signed 999999999 1000000000 z e, orZero-add z (pos powerBias)))
 
@@ -84,13 +65,13 @@ raised-more a n z t e =
     ∙ ap (λ (y : ℤ). y +ℤ t)
     (ap (λ (y : ℤ). subℕ a (powerBias * n) +ℤ y) (raised-back z e) ∙ biased-add a (raised z) (powerBias * n) powerBias ∙ ap (subℕ (a + raised z)) (omega arith))
 
-module _ (points : List Point) (links : ℕ) (s : Sums) (x : Before) (xs : List Before) where
-  four-turn : (pn : ℕ) → rest (Four pn) points links s (x ∷ xs) ≡ (taken (Four pn) points s x >>= λ t. rest (Four pn) points links t xs)
+module _ (links : ℕ) (s : Sums) (x : Before) (xs : List Before) where
+  four-turn : (pn : ℕ) (points : List Point) → rest (firstFour pn points) links s (x ∷ xs) ≡ (taken (firstFour pn points) s x >>= λ t. rest (firstFour pn points) links t xs)
   unfolding rest taken _>>=_ _>>_ require
-  four-turn pn = go (ltb (s .used) 4) refl (isPower (x .measured)) refl (tenPercent pn x) refl (isSpeed (x .weather)) refl
+  four-turn pn points = go (ltb (s .used) 4) refl (isPower (x .measured)) refl (tenPercent pn x) refl (isSpeed (x .weather)) refl
     where
       go : (f : Bool) → ltb (s .used) 4 ≡ f → (p : Bool) → isPower (x .measured) ≡ p → (t : Bool) → tenPercent pn x ≡ t → (w : Bool) → isSpeed (x .weather) ≡ w
-          → rest (Four pn) points links s (x ∷ xs) ≡ (taken (Four pn) points s x >>= λ t. rest (Four pn) points links t xs)
+          → rest (firstFour pn points) links s (x ∷ xs) ≡ (taken (firstFour pn points) s x >>= λ t. rest (firstFour pn points) links t xs)
       go false f p e t g w h =
           let z : 4 - s .used ≡ 0 = omega (arith, ltb-false (s .used) 4 f) in
           rw (f, z, none-needed (usable pn) xs)
@@ -107,28 +88,28 @@ module _ (points : List Point) (links : ℕ) (s : Sums) (x : Before) (xs : List 
         less,
         one-more (s .used) (length four),
         add-more (s .b) (curvePower points (orZero (x .weather))) (sum (map (λ y. curvePower points (orZero (y .weather))) four)),
-        natural-more (s .a) (x .measured) (totalMeasured four) (tenth-natural pn (x .measured) g),
+        raised-more (s .a) (s .used) (x .measured) (totalMeasured four) e,
       )
         where
           less : 4 - s .used - 1 ≡ 4 - (s .used + 1)
           less = omega arith
 
-  first-turn : rest First points links s (x ∷ xs) ≡ (taken First points s x >>= λ t. rest First points links t xs)
+  first-turn : rest firstOne links s (x ∷ xs) ≡ (taken firstOne s x >>= λ t. rest firstOne links t xs)
   unfolding rest taken firstMarked _>>=_ _>>_ require
   first-turn = go (eqb (s .used) 0) refl (isPower (x .measured)) refl
     where
       go : (f : Bool) → eqb (s .used) 0 ≡ f → (p : Bool) → isPower (x .measured) ≡ p
-          → rest First points links s (x ∷ xs) ≡ (taken First points s x >>= λ t. rest First points links t xs)
+          → rest firstOne links s (x ∷ xs) ≡ (taken firstOne s x >>= λ t. rest firstOne links t xs)
       go false f p e = rw f (rw f)
       go true f false e = rw (f, e)
       go true f true e = rw (f, e, ← raised-back (x .measured) e)
 
-  all-turn : rest All points links s (x ∷ xs) ≡ (taken All points s x >>= λ t. rest All points links t xs)
+  all-turn : rest everyOne links s (x ∷ xs) ≡ (taken everyOne s x >>= λ t. rest everyOne links t xs)
   unfolding rest taken _>>=_ _>>_ require
   all-turn = go (isPower (x .measured) && isIrradiance (x .weather)) refl
     where
       go : (p : Bool) → (isPower (x .measured) && isIrradiance (x .weather)) ≡ p
-          → rest All points links s (x ∷ xs) ≡ (taken All points s x >>= λ t. rest All points links t xs)
+          → rest everyOne links s (x ∷ xs) ≡ (taken everyOne s x >>= λ t. rest everyOne links t xs)
       go false e = rw e
       go true e = rw (
         e,
@@ -137,11 +118,11 @@ module _ (points : List Point) (links : ℕ) (s : Sums) (x : Before) (xs : List 
         raised-more (s .a) (s .used) (x .measured) (totalMeasured xs) (both (isPower (x .measured)) _ e .0),
       )
 
-pub rest-turn : (purpose : Purpose) (points : List Point) (links : ℕ) (s : Sums) (x : Before) (xs : List Before)
-    → rest purpose points links s (x ∷ xs) ≡ (taken purpose points s x >>= λ t. rest purpose points links t xs)
-rest-turn (Four pn) points links s x xs = four-turn points links s x xs pn
-rest-turn First points links s x xs = first-turn points links s x xs
-rest-turn All points links s x xs = all-turn points links s x xs
+pub rest-turn : (choice : Choice) (links : ℕ) (s : Sums) (x : Before) (xs : List Before)
+    → rest choice links s (x ∷ xs) ≡ (taken choice s x >>= λ t. rest choice links t xs)
+rest-turn (firstFour pn points) links s x xs = four-turn links s x xs pn points
+rest-turn firstOne links s x xs = first-turn links s x xs
+rest-turn everyOne links s x xs = all-turn links s x xs
 
 -- ---- the whole of the rest of the chain
 
@@ -159,64 +140,64 @@ nine-cond : (t : Bool) (o u : Outcome Sums) → Nine o → Nine u → Nine (cond
 nine-cond true o u h k = h
 nine-cond false o u h k = k
 
-nine : (purpose : Purpose) (points : List Point) (s : Sums) (x : Before) → Nine (taken purpose points s x)
+nine : (choice : Choice) (s : Sums) (x : Before) → Nine (taken choice s x)
 unfolding taken
-nine (Four pn) points s x =
+nine (firstFour pn points) s x =
     nine-cond (ltb (s .used) 4) _ _ (nine-require (isPower (x .measured)) _ (nine-cond (tenPercent pn x) _ _ (nine-require (isSpeed (x .weather)) _ tt) tt)) tt
-nine First points s x = nine-cond (eqb (s .used) 0) _ _ (nine-require (isPower (x .measured)) _ tt) tt
-nine All points s x = nine-require (isPower (x .measured) && isIrradiance (x .weather)) _ tt
+nine firstOne s x = nine-cond (eqb (s .used) 0) _ _ (nine-require (isPower (x .measured)) _ tt) tt
+nine everyOne s x = nine-require (isPower (x .measured) && isIrradiance (x .weather)) _ tt
 
 require-refused : (t : Bool) (n k : ℕ) → k ≡ n → _≡_ {A = Outcome Basis} (require t n >> refused k) (refused n)
 unfolding _>>_ require
 require-refused true n k e = ap refused e
 require-refused false n k e = refl
 
-module _ (purpose : Purpose) (points : List Point) (extra : ℕ) where
+module _ (choice : Choice) (extra : ℕ) where
   -- 8, 9, then the basis; `extra` links were followed before
   abbrev pub from : Walk → List Entry → Outcome Basis
   from w es =
       require (leb (w .count + length es) 96) badCount
-      >> (require (w .fine && all (λ e. markAllowed (e .bytes)) es) outOfRange >> rest purpose points (extra + (w .count + length es)) (w .sums) (marked es))
+      >> (require (w .fine && all (λ e. markAllowed (e .bytes)) es) outOfRange >> rest choice (extra + (w .count + length es)) (w .sums) (marked es))
 
   module _ (w : Walk) (e : Entry) (es : List Entry) where
     more : w .count + suc (length es) ≡ w .count + 1 + length es
     more = one-more (w .count) (length es)
 
-    from-taken : w .fine ≡ true → markAllowed (e .bytes) ≡ true → isMarked (e .bytes) ≡ true → (o : Outcome Sums) → taken purpose points (w .sums) (beforeOf (e .bytes)) ≡ o → Nine o
+    from-taken : w .fine ≡ true → markAllowed (e .bytes) ≡ true → isMarked (e .bytes) ≡ true → (o : Outcome Sums) → taken choice (w .sums) (beforeOf (e .bytes)) ≡ o → Nine o
         → from w (e ∷ es) ≡ from (withTaken w o) es
     unfolding _>>=_ _>>_ require
     from-taken f a m (refused n) t h =
-        rw (f, a, m, more, rest-turn purpose points (extra + (w .count + 1 + length es)) (w .sums) (beforeOf (e .bytes)) (marked es), t)
+        rw (f, a, m, more, rest-turn choice (extra + (w .count + 1 + length es)) (w .sums) (beforeOf (e .bytes)) (marked es), t)
         (ap (λ (o : Outcome Basis). require (leb (w .count + 1 + length es) 96) badCount >> o) (require-refused (all (λ e. markAllowed (e .bytes)) es) outOfRange n h))
     from-taken f a m (given s) t h =
-        rw (f, a, m, more, rest-turn purpose points (extra + (w .count + 1 + length es)) (w .sums) (beforeOf (e .bytes)) (marked es), t)
+        rw (f, a, m, more, rest-turn choice (extra + (w .count + 1 + length es)) (w .sums) (beforeOf (e .bytes)) (marked es), t)
 
-    from-turn : from w (e ∷ es) ≡ from (steppedBy purpose points w e) es
+    from-turn : from w (e ∷ es) ≡ from (steppedBy choice w e) es
     unfolding stepped _>>_ require
     from-turn = go (w .fine) refl (markAllowed (e .bytes)) refl (isMarked (e .bytes)) refl (ltb (w .count) 96) refl
       where
         go : (f : Bool) → w .fine ≡ f → (a : Bool) → markAllowed (e .bytes) ≡ a → (m : Bool) → isMarked (e .bytes) ≡ m → (l : Bool) → ltb (w .count) 96 ≡ l
-            → from w (e ∷ es) ≡ from (steppedBy purpose points w e) es
+            → from w (e ∷ es) ≡ from (steppedBy choice w e) es
         go false f a g m h l k = rw (f, more)
         go true f false g m h l k = rw (f, g, more)
         go true f true g false h l k = rw (f, g, h, more)
         go true f true g true h false k = rw (f, g, h, k, more, lt-leb (w .count + 1 + length es) 96 (omega (arith, ltb-false (w .count) 96 k)))
         go true f true g true h true k =
-            from-taken f g h (taken purpose points (w .sums) (beforeOf (e .bytes))) refl (nine purpose points (w .sums) (beforeOf (e .bytes)))
+            from-taken f g h (taken choice (w .sums) (beforeOf (e .bytes))) refl (nine choice (w .sums) (beforeOf (e .bytes)))
             ∙ rw (f, g, h, k)
 
-  from-end : (w : Walk) → from w [] ≡ (passed w >>= λ v. rest purpose points (extra + v .count) (v .sums) [])
+  from-end : (w : Walk) → from w [] ≡ (passed w >>= λ v. rest choice (extra + v .count) (v .sums) [])
   unfolding passed _>>=_ _>>_ require
   from-end w = go (leb (w .count) 96) refl (w .fine) refl
     where
       none : w .count + 0 ≡ w .count
       none = omega arith
 
-      go : (l : Bool) → leb (w .count) 96 ≡ l → (f : Bool) → w .fine ≡ f → from w [] ≡ (passed w >>= λ v. rest purpose points (extra + v .count) (v .sums) [])
+      go : (l : Bool) → leb (w .count) 96 ≡ l → (f : Bool) → w .fine ≡ f → from w [] ≡ (passed w >>= λ v. rest choice (extra + v .count) (v .sums) [])
       go false k f e = rw (none, k)
       go true k false e = rw (none, k, e)
       go true k true e = rw (none, k, e)
 
-  pub from-is : (w : Walk) (es : List Entry) → from w es ≡ (passed (gathered (steppedBy purpose points) w es) >>= λ v. rest purpose points (extra + v .count) (v .sums) [])
+  pub from-is : (w : Walk) (es : List Entry) → from w es ≡ (passed (gathered (steppedBy choice) w es) >>= λ v. rest choice (extra + v .count) (v .sums) [])
   from-is w [] = from-end w
-  from-is w (e ∷ es) = from-turn w e es ∙ from-is (steppedBy purpose points w e) es
+  from-is w (e ∷ es) = from-turn w e es ∙ from-is (steppedBy choice w e) es

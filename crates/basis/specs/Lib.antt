@@ -1,1 +1,1 @@
-pub mod Based
+pub mod Bases

@@ -1,46 +1,56 @@
-// The basis of T: the reference of a measure from its before-quarters (document 01, 'Reference power T').
+// The basis of a measure: how its T is found, and the links followed for that (document 01, 'Reference power T').
 ghost use mathlib.Core.Path.{_≡_};
-ghost use mathlib.Core.Bool.{true};
-ghost use mathlib.Core.List.{List};
-ghost use Prim.Native.Nat.{_≤_};
-ghost use lib.ListN.{length};
-ghost use Rattle.rules.specs.Archive.{recordAt};
-ghost use Rattle.rules.specs.Terms.{Point, plantAllowed};
-ghost use Rattle.rules.specs.Settle.{pauschalBasis};
+ghost use Rattle.rules.specs.Settle.{pauschalBasis, basisBy, basisOf};
+ghost use Rattle.rules.specs.declared.Technology.the-variants.{Wind as wind};
+ghost use Rattle.rules.specs.declared.Variant.the-variants.{Spitz as spitz};
 ghost use Rattle.place.specs.Places.{meant, Lies};
-ghost use Rattle.curve.specs.Tables.{Low, Tabulates};
-ghost use Rattle.basis.specs.Based.{basedAnswer, windOf, solarOf};
+ghost use Rattle.basis.specs.Bases.{needsCurve, Spare, SpareFor, CurveAt, OnPoints, Finds, solarOf};
 use comparison::Gathered;
 use comparison::Purpose;
 use curve::Curve;
-use energy::reference::Reference;
 use place::Place;
+use points::CurveAnswer;
+use reference::Reference;
 use rules::refusal;
+use rules::Technology;
+use rules::Variant;
+use terms::Terms;
 use units::Irradiance;
 
-// A reference and the links followed for it, or a refusal.
+pub struct Basis {
+    pub reference: Reference,
+    pub links: u64,
+}
+
 pub enum Based {
-    On(Reference, u64),
+    On(Basis),
     Refused(u64),
 }
 
-// Wind Spitz: 11, then 12. `links` are the curve points followed.
-pub fn wind(archive: &[u8], place: Place, curve: Curve, table: &[u64], links: u64) -> Based
-    requires { ⌜ Lies (now archive) place ⌝ }
-    requires { ⌜ plantAllowed (recordAt (now archive) (place .plant)) ≡ true ⌝ }
-    requires { ⌜ (length (now table) ≡ 1001) × Low (now table) × (links ≤ 65535) ⌝ }
-    ensures { λ r. ⌜ ((points : List Point) → Tabulates curve (now (table .entry)) points → length points ≡ links
-        → r ≡ basedAnswer (windOf (now (archive .entry)) (meant (now (archive .entry)) place) points)) ⌝ }
+// T is read from the plant's curve.
+pub fn needs_curve(terms: Terms) -> bool
+    ensures { λ r. ⌜ r ≡ needsCurve (terms .technology) (terms .variant) ⌝ }
 {
-    let i = place.plant as usize;
-    let pn = terms::nominal_power(&archive[32 * i..32 * i + 32]);
-    match comparison::gather(
-        archive,
-        place,
-        Purpose::Four(units::unsigned(pn)),
-        curve,
-        table,
-    ) {
+    let technology = terms.technology;
+    let variant = terms.variant;
+    match technology {
+        Technology::Wind => match variant {
+            Variant::Spitz => true,
+            Variant::Pauschal => false,
+        },
+        Technology::Solar => false,
+        Technology::Other => false,
+    }
+}
+
+// Wind Spitz, on a curve of so many points: 11, then 12.
+fn on_curve(archive: &[u8], place: Place, curve: Curve, powers: &[u32], points: u64) -> Based
+    requires { ⌜ Lies (now archive) place ⌝ }
+    requires { ⌜ CurveAt (now powers) points ⌝ }
+    ensures { λ r. ⌜ OnPoints (now (archive .entry)) (meant (now (archive .entry)) place) curve (now (powers .entry)) points r ⌝ }
+{
+    let pn = place.terms.nominal;
+    match comparison::gather(archive, place, Purpose::Four(pn, curve), powers) {
         Gathered::Of(four) => {
             if four.sums.used != 4 {
                 return Based::Refused(refusal::TOO_FEW_USABLE);
@@ -48,47 +58,57 @@ pub fn wind(archive: &[u8], place: Place, curve: Curve, table: &[u64], links: u6
             if four.sums.b == 0 {
                 return Based::Refused(refusal::DIVISOR_ZERO);
             }
-            Based::On(
-                Reference::OnCurve(
-                    units::lowered(four.sums.a, 0),
-                    units::lowered(four.sums.b, 0),
-                    pn,
-                ),
-                links + four.count,
-            )
+            let a = units::lowered(four.sums.a, 4000000000);
+            let b = units::lowered(four.sums.b, 0);
+            let basis = Basis {
+                reference: Reference::OnCurve(a, b, pn, curve),
+                links: points + four.count,
+            };
+            Based::On(basis)
         }
         Gathered::Refused(n) => Based::Refused(n),
     }
 }
 
-// No curve is needed.
-const NO_CURVE: Curve = Curve { first: 0, last: 0 };
+// Wind Spitz: the curve's points, then the before-quarters.
+fn wind(archive: &[u8], place: Place, powers: &mut [u32]) -> Based
+    requires { ⌜ Lies (now archive) place ⌝ }
+    requires { ⌜ Spare (now powers) ⌝ }
+    ensures { λ r. ⌜ Finds (basisBy wind spitz (now (archive .entry)) (meant (now (archive .entry)) place)) (now (powers .exit)) r ⌝ }
+{
+    match points::read_points(archive, place, powers) {
+        CurveAnswer::Refused(n) => Based::Refused(n),
+        CurveAnswer::Read(curve, points) => on_curve(archive, place, curve, powers, points),
+    }
+}
 
 // Wind and other Pauschal: 11.
-pub fn pauschal(archive: &[u8], place: Place) -> Based
+fn pauschal(archive: &[u8], place: Place, powers: &[u32]) -> Based
     requires { ⌜ Lies (now archive) place ⌝ }
-    ensures { λ r. ⌜ r ≡ basedAnswer (pauschalBasis (now (archive .entry)) (meant (now (archive .entry)) place)) ⌝ }
+    ensures { λ r. ⌜ Finds (pauschalBasis (now (archive .entry)) (meant (now (archive .entry)) place)) (now (powers .entry)) r ⌝ }
 {
-    let no_table: [u64; 1] = [0];
-    match comparison::gather(archive, place, Purpose::First, NO_CURVE, &no_table) {
+    match comparison::gather(archive, place, Purpose::First, powers) {
         Gathered::Of(first) => {
             if first.sums.used == 0 {
                 return Based::Refused(refusal::TOO_FEW_USABLE);
             }
-            let power = units::lowered(first.sums.a, 1000000000);
-            Based::On(Reference::LastMeasured(power), first.count)
+            let p0 = units::lowered(first.sums.a, 1000000000);
+            let basis = Basis {
+                reference: Reference::LastMeasured(p0),
+                links: first.count,
+            };
+            Based::On(basis)
         }
         Gathered::Refused(n) => Based::Refused(n),
     }
 }
 
 // Solar Spitz: 11, then 12.
-pub fn solar(archive: &[u8], place: Place) -> Based
+fn solar(archive: &[u8], place: Place, powers: &[u32]) -> Based
     requires { ⌜ Lies (now archive) place ⌝ }
-    ensures { λ r. ⌜ r ≡ basedAnswer (solarOf (now (archive .entry)) (meant (now (archive .entry)) place)) ⌝ }
+    ensures { λ r. ⌜ Finds (solarOf (now (archive .entry)) (meant (now (archive .entry)) place)) (now (powers .entry)) r ⌝ }
 {
-    let no_table: [u64; 1] = [0];
-    match comparison::gather(archive, place, Purpose::All, NO_CURVE, &no_table) {
+    match comparison::gather(archive, place, Purpose::All, powers) {
         Gathered::Of(all) => {
             if all.sums.used == 0 {
                 return Based::Refused(refusal::TOO_FEW_USABLE);
@@ -97,11 +117,51 @@ pub fn solar(archive: &[u8], place: Place) -> Based
                 return Based::Refused(refusal::DIVISOR_ZERO);
             }
             let a = units::lowered(all.sums.a, 1000000000 * all.sums.used);
-            Based::On(
-                Reference::OnIrradiance(a, Irradiance(all.sums.b)),
-                all.count,
-            )
+            let basis = Basis {
+                reference: Reference::OnIrradiance(a, Irradiance(all.sums.b)),
+                links: all.count,
+            };
+            Based::On(basis)
         }
         Gathered::Refused(n) => Based::Refused(n),
+    }
+}
+
+// By technology and variant; chains not needed aren't walked. Where a curve is needed, its powers are left in `powers`, a table of
+// zeros; elsewhere that may be empty, and stays.
+pub fn find(archive: &[u8], place: Place, powers: &mut [u32]) -> Based
+    requires { ⌜ Lies (now archive) place ⌝ }
+    requires { ⌜ SpareFor (place .terms) (now powers) ⌝ }
+    ensures { λ r. ⌜ Finds (basisOf (now (archive .entry)) (meant (now (archive .entry)) place)) (now (powers .exit)) r ⌝ }
+{
+    let terms = place.terms;
+    let technology = terms.technology;
+    let variant = terms.variant;
+    match technology {
+        Technology::Wind => match variant {
+            Variant::Spitz => wind(archive, place, powers),
+            Variant::Pauschal => pauschal(archive, place, powers),
+        },
+        Technology::Solar => match variant {
+            Variant::Spitz => solar(archive, place, powers),
+            Variant::Pauschal => {
+                let pn = terms.nominal;
+                let basis = Basis {
+                    reference: Reference::ByFactor(pn),
+                    links: 0,
+                };
+                Based::On(basis)
+            }
+        },
+        Technology::Other => match variant {
+            Variant::Spitz => {
+                let basis = Basis {
+                    reference: Reference::AsPlanned,
+                    links: 0,
+                };
+                Based::On(basis)
+            }
+            Variant::Pauschal => pauschal(archive, place, powers),
+        },
     }
 }
