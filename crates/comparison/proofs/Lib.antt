@@ -1,4 +1,3 @@
+pub mod Taken
 pub mod Steps
 pub mod Walks
-pub mod Taken
-pub mod Purposes

@@ -8,12 +8,11 @@ use borrow.Author.Tests.{lt-ltb, le-ltb, le-leb, lt-leb, eq-eqb, ne-eqb}
 use Rattle.rules.specs.Outcome.{Outcome, refused, given, _>>_, require}
 use Rattle.rules.specs.Refusals.{badCount, outOfRange}
 use Rattle.rules.specs.Archive.{byteAt}
-use Rattle.rules.specs.Terms.{Point, beforeOf}
-use Rattle.comparison.specs.declared.Purpose.{Purpose}
+use Rattle.rules.specs.Terms.{beforeOf}
 use Rattle.comparison.specs.declared.Sums.{Sums}
 use Rattle.comparison.specs.declared.Added.{Added}
 use Rattle.comparison.specs.declared.Added.the-variants.{To, OutOfRange}
-use Rattle.comparison.specs.Sums.{taken, addedAnswer, Grown, RoomAdded}
+use Rattle.comparison.specs.Sums.{Choice, taken, addedAnswer, Grown, RoomAdded}
 use Rattle.comparison.specs.declared.Walk.{Walk}
 use Rattle.comparison.specs.declared.Gathered.the-variants.{Of, Refused}
 use Rattle.comparison.specs.Walks.{counted, notFine, stepped, RoomIn, passed, gatheredAnswer}
@@ -35,41 +34,41 @@ module _ (w : Walk) (room : RoomIn w) where
 
 -- ---- a step
 
-module _ (purpose : Purpose) (points : List Point) (w : Walk) (r : List ℕ) where
-  pub step-skipped : w .fine ≡ false → counted w ≡ stepped purpose points w r
+module _ (choice : Choice) (w : Walk) (r : List ℕ) where
+  pub step-skipped : w .fine ≡ false → counted w ≡ stepped choice w r
   unfolding stepped
   step-skipped e = rw e
 
   module _ (fine : w .fine ≡ true) where
-    pub step-bad : 1 < byteAt r 1 → notFine w ≡ stepped purpose points w r
+    pub step-bad : 1 < byteAt r 1 → notFine w ≡ stepped choice w r
     unfolding stepped
     step-bad h = rw (fine, lt-leb (byteAt r 1) 1 h)
 
-    pub step-unmarked : byteAt r 1 ≤ 1 → (byteAt r 1 ≡ 1 → ⊥) → counted w ≡ stepped purpose points w r
+    pub step-unmarked : byteAt r 1 ≤ 1 → (byteAt r 1 ≡ 1 → ⊥) → counted w ≡ stepped choice w r
     unfolding stepped
     step-unmarked h z = rw (fine, le-leb (byteAt r 1) 1 h, ne-eqb (byteAt r 1) 1 z)
 
     module _ (one : byteAt r 1 ≡ 1) where
-      pub step-over : 96 ≤ w .count → counted w ≡ stepped purpose points w r
+      pub step-over : 96 ≤ w .count → counted w ≡ stepped choice w r
       unfolding stepped
       step-over h = rw (fine, le-leb (byteAt r 1) 1 (omega arith), eq-eqb (byteAt r 1) 1 one, le-ltb (w .count) 96 h)
 
-      module _ (few : w .count < 96) (x : Added) (a : x ≡ addedAnswer (taken purpose points (w .sums) (beforeOf r))) where
-        pub step-out : x ≡ OutOfRange → notFine w ≡ stepped purpose points w r
+      module _ (few : w .count < 96) (x : Added) (a : x ≡ addedAnswer (taken choice (w .sums) (beforeOf r))) where
+        pub step-out : x ≡ OutOfRange → notFine w ≡ stepped choice w r
         unfolding stepped
         step-out t =
             rw (fine, le-leb (byteAt r 1) 1 (omega arith), eq-eqb (byteAt r 1) 1 one, lt-ltb (w .count) 96 few)
-            (rw (go (taken purpose points (w .sums) (beforeOf r)) (sym t ∙ a) .1))
+            (rw (go (taken choice (w .sums) (beforeOf r)) (sym t ∙ a) .1))
           where
             go : (o : Outcome Sums) → OutOfRange ≡ addedAnswer o → (n : ℕ) × (o ≡ refused n)
             go (refused n) b = (n, refl)
             go (given u) b = let z : _≡_ {A = ℕ} 0 1 = cc in absurd (omega arith)
 
-        pub step-to : (t : Sums) → x ≡ To t → _≡_ {A = Walk} (record { count = w .count + 1; fine = w .fine; sums = t }) (stepped purpose points w r)
+        pub step-to : (t : Sums) → x ≡ To t → _≡_ {A = Walk} (record { count = w .count + 1; fine = w .fine; sums = t }) (stepped choice w r)
         unfolding stepped
         step-to t e =
             rw (fine, le-leb (byteAt r 1) 1 (omega arith), eq-eqb (byteAt r 1) 1 one, lt-ltb (w .count) 96 few)
-            (rw (go (taken purpose points (w .sums) (beforeOf r)) (sym e ∙ a)))
+            (rw (go (taken choice (w .sums) (beforeOf r)) (sym e ∙ a)))
           where
             go : (o : Outcome Sums) → To t ≡ addedAnswer o → o ≡ given t
             go (refused n) b = let z : _≡_ {A = ℕ} 0 1 = cc in absurd (omega arith)

@@ -1,53 +1,34 @@
--- The walk along the chain of before-quarters: a turn, its end and a refused link.
-use mathlib.Core.Path.{_≡_, sym, _∙_, ap}
+-- The walk along the chain of before-quarters: what holds at each link, and the answer from what it has gathered.
+use mathlib.Core.Path.{_≡_, _∙_}
 use mathlib.Core.List.{List}
-use Prim.Native.Nat.{ℕ}
-use Rattle.rules.specs.Outcome.{_>>=_}
-use Rattle.rules.specs.Archive.{nextOf, recordAt, entryAt, beforeKind, firstBefore, follow, chain}
-use Rattle.rules.specs.Terms.{Point}
+use Prim.Native.Nat.{ℕ, _≤_, _<_}
+use Rattle.rules.specs.Outcome.{refused, given, _>>=_}
+use Rattle.rules.specs.Archive.{beforeKind, firstBefore, chain}
 use Rattle.rules.specs.Settle as settle
-use Rattle.rules.proofs.Chains.{chain-ends}
-use Rattle.rules.proofs.Folds.{gatheredFrom, gather-turn, gather-refused, gather-done}
-use Rattle.chains.specs.declared.Link.{Link}
-use Rattle.chains.specs.Answers.{linkAnswer, refusalOf}
-use Rattle.chains.proofs.Laws.{Met, NoAt, chain-met, chain-none}
+use Rattle.rules.proofs.Folds.{gatheredFrom}
+use Rattle.chains.proofs.Walking.{Walking}
 use Rattle.comparison.specs.declared.Purpose.{Purpose}
 use Rattle.comparison.specs.declared.Walk.{Walk}
 use Rattle.comparison.specs.declared.Gathered.{Gathered}
 use Rattle.comparison.specs.declared.Gathered.the-variants.{Refused}
-use Rattle.comparison.specs.Walks.{start, stepped, steppedBy, passed, gatheredOf, gatheredAnswer}
+use Rattle.comparison.specs.Sums.{Choice, Means}
+use Rattle.comparison.specs.Walks.{start, steppedBy, RoomIn, passed, gatheredOf, gatheredAnswer}
 
-module _ (purpose : Purpose) (points : List Point) where
-  pub walk-turn : (archive : List ℕ) (used last link n next : ℕ) (w v : Walk) → Met archive used beforeKind last link n → next ≡ nextOf (recordAt archive n)
-      → (r : List ℕ) → r ≡ recordAt archive n → v ≡ stepped purpose points w r
-      → gatheredFrom (steppedBy purpose points) w (chain archive used beforeKind last link) ≡ gatheredFrom (steppedBy purpose points) v (chain archive used beforeKind n next)
-  walk-turn archive used last link n next w v m e r f g =
-      gather-turn (steppedBy purpose points) w (chain archive used beforeKind last link) (chain archive used beforeKind n next) (entryAt archive n)
-      (chain-met archive used beforeKind last link n next m e)
-      ∙ ap (λ (x : Walk). gatheredFrom (steppedBy purpose points) x (chain archive used beforeKind n next))
-      (sym (g ∙ ap (λ (x : List ℕ). stepped purpose points w x) f))
+-- from the link `first` of `holder` on, the walk has come to the link `link` of `last`
+pub record Going (purpose : Purpose) (powers archive : List ℕ) (used holder first last link : ℕ) (w : Walk) : Type 0 where
+  pub walking : (choice : Choice) → Means purpose powers choice → Walking (steppedBy choice) archive used beforeKind holder first start last link w
+  pub below : last < used
+  -- links rise
+  pub few : w .count ≤ last
+  pub room : RoomIn w
 
-  module _ (archive : List ℕ) (place : settle.Place) (first : ℕ) (starts : first ≡ firstBefore (place .measure .bytes)) (last link : ℕ) (w : Walk)
-      (inv : gatheredFrom (steppedBy purpose points) start (chain archive (place .used) beforeKind (place .measure .number) first)
-      ≡ gatheredFrom (steppedBy purpose points) w (chain archive (place .used) beforeKind last link)) where
-    pub walk-ended : link ≡ 0 → (r : Gathered) → r ≡ gatheredAnswer (passed w) → r ≡ gatheredAnswer (gatheredOf purpose points archive place)
-    unfolding _>>=_
-    walk-ended z r e =
-        e
-        ∙ rw (
-          ← starts,
-          inv,
-          gather-done (steppedBy purpose points) w (chain archive (place .used) beforeKind last link) (chain-ends archive (place .used) beforeKind last link z),
-        )
+module _ (choice : Choice) (archive : List ℕ) (place : settle.Place) {first : ℕ} (starts : first ≡ firstBefore (place .measure .bytes)) where
+  pub gathered-whole : {w : Walk} → gatheredFrom (steppedBy choice) start (chain archive (place .used) beforeKind (place .measure .number) first) ≡ given w
+      → {r : Gathered} → r ≡ gatheredAnswer (passed w) → r ≡ gatheredAnswer (gatheredOf choice archive place)
+  unfolding _>>=_
+  gathered-whole g e = e ∙ rw (← starts, g)
 
-    pub walk-refused : (answer : Link) → answer ≡ linkAnswer link (follow archive (place .used) beforeKind last link) → NoAt answer → (link ≡ 0 → ⊥)
-        → (k : ℕ) → k ≡ refusalOf answer 0 → Refused k ≡ gatheredAnswer (gatheredOf purpose points archive place)
-    unfolding _>>=_
-    walk-refused answer a none z k e =
-        rw (
-          ← starts,
-          inv,
-          gather-refused (steppedBy purpose points) w (chain archive (place .used) beforeKind last link) (refusalOf answer 0)
-              (chain-none archive (place .used) beforeKind last link answer a none z),
-          e,
-        )
+  pub gathered-broken : {n : ℕ} → chain archive (place .used) beforeKind (place .measure .number) first ≡ refused n
+      → {k : ℕ} → k ≡ n → Refused k ≡ gatheredAnswer (gatheredOf choice archive place)
+  unfolding _>>=_
+  gathered-broken g e = rw (← starts, g, e)

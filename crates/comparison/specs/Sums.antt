@@ -1,5 +1,5 @@
 -- What a marked before-quarter adds to the sums A and B.
-use Prim.Native.Nat.{ℕ, _+_, _*_, _≤_}
+use Prim.Native.Nat.{ℕ, _+_, _*_, _≤_, _<_}
 use mathlib.Core.Path.{_≡_}
 use mathlib.Core.Bool.{cond, _&&_}
 use mathlib.Core.List.{List}
@@ -12,7 +12,7 @@ use Rattle.rules.specs.Numbers.{orZero}
 use Rattle.rules.specs.Terms.{Point, Before, isPower, isSpeed, isIrradiance}
 use Rattle.rules.specs.Reference.{curvePower}
 use Rattle.rules.specs.Settle.{tenPercent}
-use Rattle.curve.specs.declared.Curve.{Curve}
+use Rattle.units.specs.declared.Watt.{Watt}
 use Rattle.curve.specs.Tables.{Low, Tabulates}
 use Rattle.comparison.specs.declared.Purpose.{Purpose}
 use Rattle.comparison.specs.declared.Purpose.the-variants.{Four, First, All}
@@ -20,18 +20,33 @@ use Rattle.comparison.specs.declared.Sums.{Sums}
 use Rattle.comparison.specs.declared.Added.{Added}
 use Rattle.comparison.specs.declared.Added.the-variants as added
 
--- ---- what a purpose needs
+-- ---- purposes
 
--- Pn, and a table of the plant's curve, for wind Spitz alone
+-- which marked before-quarters are used: for wind Spitz, by Pn and the points of the plant's curve, the first four; for Pauschal the
+-- first one; for solar Spitz every one
+pub data Choice : Type 0 where
+  firstFour : ℕ → List Point → Choice
+  firstOne : Choice
+  everyOne : Choice
+
+-- the choice that a purpose stands for, with the powers of its curve beside it
+abbrev pub Means : Purpose → List ℕ → Choice → Type 0
+Means (Four pn curve) powers choice = (points : List Point) × (choice ≡ firstFour (orZero (pn .0)) points) × Tabulates curve powers points
+Means First powers choice = choice ≡ firstOne
+Means All powers choice = choice ≡ everyOne
+
+-- Pn is in range, and there is a power in range for every speed
+pub record Scaled (pn : Watt) (powers : List ℕ) : Type 0 where
+  pub natural : pn .0 ≡ pos (orZero (pn .0))
+  pub nominal : orZero (pn .0) ≤ 1000000000
+  pub size : length powers ≡ 1001
+  pub low : Low powers
+
+-- what a purpose asks of the powers beside it
 abbrev pub Ready : Purpose → List ℕ → Type 0
-Ready (Four pn) table = (pn ≤ 1000000000) × (length table ≡ 1001) × Low table
-Ready First table = Unit {0}
-Ready All table = Unit {0}
-
-abbrev pub Curved : Purpose → Curve → List ℕ → List Point → Type 0
-Curved (Four pn) curve table points = Tabulates curve table points
-Curved First curve table points = Unit {0}
-Curved All curve table points = Unit {0}
+Ready (Four pn curve) powers = Scaled pn powers
+Ready First powers = Unit {0}
+Ready All powers = Unit {0}
 
 -- ---- sums
 
@@ -43,30 +58,31 @@ plus s a b = record { used = s .used + 1; a = s .a + a; b = s .b + b }
 abbrev pub onlyOne : ℕ → Sums
 onlyOne a = record { used = 1; a = a; b = 0 }
 
--- what is added to a power, so that it isn't below zero
+-- what every power in A is raised by
 abbrev pub powerBias : ℕ
 powerBias = 1000000000
 
--- a power raised by 1,000,000,000
 abbrev pub raised : ℤ → ℕ
 raised z = orZero (z +ℤ pos powerBias)
 
--- a marked before-quarter: what the purpose takes from it, or 9. A of wind Spitz is held as it is, every other power raised
-unfoldable pub taken : Purpose → List Point → Sums → Before → Outcome Sums
-taken (Four pn) points s x =
+-- a marked before-quarter: what is taken from it, or 9
+unfoldable pub taken : Choice → Sums → Before → Outcome Sums
+taken (firstFour pn points) s x =
     cond (ltb (s .used) 4)
     (require (isPower (x .measured)) outOfRange
     >> cond (tenPercent pn x)
-    (require (isSpeed (x .weather)) outOfRange >> given (plus s (orZero (x .measured)) (curvePower points (orZero (x .weather)))))
+    (require (isSpeed (x .weather)) outOfRange >> given (plus s (raised (x .measured)) (curvePower points (orZero (x .weather)))))
     (given s))
     (given s)
-taken First points s x = cond (eqb (s .used) 0) (require (isPower (x .measured)) outOfRange >> given (onlyOne (raised (x .measured)))) (given s)
-taken All points s x =
+taken firstOne s x = cond (eqb (s .used) 0) (require (isPower (x .measured)) outOfRange >> given (onlyOne (raised (x .measured)))) (given s)
+taken everyOne s x =
     require (isPower (x .measured) && isIrradiance (x .weather)) outOfRange >> given (plus s (raised (x .measured)) (orZero (x .weather)))
 
 abbrev pub addedAnswer : Outcome Sums → Added
 addedAnswer (refused n) = added.OutOfRange
 addedAnswer (given s) = added.To s
+
+-- ---- how large the sums can be
 
 -- each sum is of as many before-quarters as are used, 96 at most
 pub record Room (s : Sums) : Type 0 where
@@ -74,6 +90,14 @@ pub record Room (s : Sums) : Type 0 where
   pub low-a : s .a ≤ 2000000000 * s .used
   pub low-b : s .b ≤ 1000000000 * s .used
 
+-- there is room for one more: a raised power, and a curve's power or an irradiance
+pub record RoomFor (s : Sums) (a b : ℕ) : Type 0 where
+  pub room : Room s
+  pub few : s .used < 96
+  pub low-a : a ≤ 2000000000
+  pub low-b : b ≤ 1000000000
+
+-- one more used at most
 pub record Grown (s t : Sums) : Type 0 where
   pub room : Room t
   pub one : t .used ≤ s .used + 1

@@ -1,14 +1,16 @@
-// The sums A and B over a measure's before-quarters, one before-quarter at a time (document 01, 'Reference power T').
+// The sums A and B over a measure's before-quarters, gathered in one walk along their chain (document 01, 'Reference power T').
 ghost use mathlib.Core.Path.{_≡_};
 ghost use mathlib.Core.List.{List};
-ghost use Prim.Native.Nat.{_^_, _≤_, _<_, _+_};
+ghost use Prim.Native.Nat.{_^_, _<_};
 ghost use lib.ListN.{length};
+ghost use Rattle.rules.specs.Numbers.{orZero};
 ghost use Rattle.rules.specs.Archive.{linkAt, fieldAt};
 ghost use Rattle.rules.specs.Terms.{Point, beforeOf};
 ghost use Rattle.curve.specs.Tables.{Tabulates};
-ghost use Rattle.comparison.specs.Sums.{Ready, Curved, plus as plusOf, taken, addedAnswer, Room, RoomAdded};
 ghost use Rattle.place.specs.Places.{meant, Lies};
-ghost use Rattle.comparison.specs.Walks.{stepped, RoomIn, passed as passedOf, gatheredOf, gatheredAnswer, RoomGathered};
+ghost use Rattle.comparison.specs.Sums.{Choice, firstFour, firstOne, everyOne, Means, Scaled, Ready};
+ghost use Rattle.comparison.specs.Sums.{plus as plusOf, taken, addedAnswer, Room, RoomFor, RoomAdded};
+ghost use Rattle.comparison.specs.Walks.{RoomIn, Stepped, passed as passedOf, gatheredOf, gatheredAnswer, RoomGathered};
 use chains::Link;
 use curve::Curve;
 use place::Place;
@@ -16,15 +18,39 @@ use rules::kind;
 use rules::refusal;
 use units::Watt;
 
-// Wind Spitz: the first four marked ones whose measured power is 10 % of Pn or more. Wind and other Pauschal: the first marked one.
-// Solar Spitz: all marked ones.
+// What the sums are for. Wind Spitz: the first four marked ones whose measured power is 10 % of Pn or more; Pn, and the plant's
+// curve, whose powers by speed are lent beside it. Wind and other Pauschal: the first marked one. Solar Spitz: all marked ones.
 pub enum Purpose {
-    Four(u64),
+    Four(Watt, Curve),
     First,
     All,
 }
 
-// ---- fields
+// The before-quarters used, and A and B over them. Every power in A is raised by 1,000,000,000, so that A isn't below zero.
+pub struct Sums {
+    pub used: u64,
+    pub a: u64,
+    pub b: u64,
+}
+
+enum Added {
+    To(Sums),
+    OutOfRange,
+}
+
+// The before-quarters met, whether every field read so far is in range, and the sums.
+pub struct Walk {
+    pub count: u64,
+    pub fine: bool,
+    pub sums: Sums,
+}
+
+pub enum Gathered {
+    Of(Walk),
+    Refused(u64),
+}
+
+// ---- one before-quarter, from its own 32 bytes
 
 fn measured_of(r: &[u8]) -> Watt
     requires { ⌜ length (now r) ≡ 32 ⌝ }
@@ -41,19 +67,9 @@ fn weather_of(r: &[u8]) -> u64
     record::link_at(r, 16)
 }
 
-// ---- sums
-
-// The before-quarters used, and A and B over them; the powers in A are raised by 1,000,000,000 each, but not for wind Spitz.
-pub struct Sums {
-    pub used: u64,
-    pub a: u64,
-    pub b: u64,
-}
-
 // One more used.
 fn plus(sums: Sums, a: u64, b: u64) -> Sums
-    requires { ⌜ Room sums ⌝ }
-    requires { ⌜ (sums .used < 96) × (a ≤ 2000000000) × (b ≤ 1000000000) ⌝ }
+    requires { ⌜ RoomFor sums a b ⌝ }
     ensures { λ r. ⌜ r ≡ plusOf sums a b ⌝ }
 {
     Sums {
@@ -63,17 +79,13 @@ fn plus(sums: Sums, a: u64, b: u64) -> Sums
     }
 }
 
-pub enum Added {
-    To(Sums),
-    OutOfRange,
-}
-
-// A marked before-quarter, from its own 32 bytes, for wind Spitz. 10 × measured ≥ Pn is tested on the raised power.
-fn add_four(pn: u64, curve: Curve, table: &[u64], sums: Sums, r: &[u8]) -> Added
-    requires { ⌜ Ready (Purpose.Four pn) (now table) ⌝ }
+// For wind Spitz. 10 × measured ≥ Pn is tested on the raised power.
+fn add_four(pn: Watt, curve: Curve, powers: &[u64], sums: Sums, r: &[u8]) -> Added
+    requires { ⌜ Scaled pn (now powers) ⌝ }
     requires { ⌜ Room sums ⌝ }
     requires { ⌜ length (now r) ≡ 32 ⌝ }
-    ensures { λ t. ⌜ ((points : List Point) → Tabulates curve (now (table .entry)) points → t ≡ addedAnswer (taken (Purpose.Four pn) points sums (beforeOf (now (r .entry)))))
+    ensures { λ t. ⌜ ((points : List Point) → Tabulates curve (now (powers .entry)) points
+        → t ≡ addedAnswer (taken (firstFour (orZero (pn .0)) points) sums (beforeOf (now (r .entry)))))
         × RoomAdded sums t ⌝ }
 {
     if 4 <= sums.used {
@@ -84,22 +96,23 @@ fn add_four(pn: u64, curve: Curve, table: &[u64], sums: Sums, r: &[u8]) -> Added
         return Added::OutOfRange;
     }
     let power = units::raised(measured);
-    if 10 * power < pn + 10000000000 {
+    let least = units::unsigned(pn) + 10000000000;
+    if 10 * power < least {
         return Added::To(sums);
     }
     let word = weather_of(r);
     if !units::is_speed(word) {
         return Added::OutOfRange;
     }
-    let on_curve = curve::power_at(curve, table, units::speed_of(word));
-    Added::To(plus(sums, power - 1000000000, units::unsigned(on_curve)))
+    let on_curve = curve::power_at(curve, powers, units::speed_of(word));
+    Added::To(plus(sums, power, units::unsigned(on_curve)))
 }
 
-// The same for Pauschal; no 10 % test.
+// For Pauschal; no 10 % test.
 fn add_first(sums: Sums, r: &[u8]) -> Added
     requires { ⌜ Room sums ⌝ }
     requires { ⌜ length (now r) ≡ 32 ⌝ }
-    ensures { λ t. ⌜ ((points : List Point) → t ≡ addedAnswer (taken Purpose.First points sums (beforeOf (now (r .entry))))) × RoomAdded sums t ⌝ }
+    ensures { λ t. ⌜ (t ≡ addedAnswer (taken firstOne sums (beforeOf (now (r .entry))))) × RoomAdded sums t ⌝ }
 {
     if sums.used != 0 {
         return Added::To(sums);
@@ -115,11 +128,11 @@ fn add_first(sums: Sums, r: &[u8]) -> Added
     })
 }
 
-// The same for solar Spitz.
+// For solar Spitz.
 fn add_all(sums: Sums, r: &[u8]) -> Added
     requires { ⌜ Room sums ⌝ }
     requires { ⌜ (sums .used < 96) × (length (now r) ≡ 32) ⌝ }
-    ensures { λ t. ⌜ ((points : List Point) → t ≡ addedAnswer (taken Purpose.All points sums (beforeOf (now (r .entry))))) × RoomAdded sums t ⌝ }
+    ensures { λ t. ⌜ (t ≡ addedAnswer (taken everyOne sums (beforeOf (now (r .entry))))) × RoomAdded sums t ⌝ }
 {
     let measured = measured_of(r);
     if !units::in_power_range(measured) {
@@ -132,36 +145,30 @@ fn add_all(sums: Sums, r: &[u8]) -> Added
     Added::To(plus(sums, units::raised(measured), units::irradiance_of(word).0))
 }
 
-pub fn add_marked(purpose: Purpose, curve: Curve, table: &[u64], sums: Sums, r: &[u8]) -> Added
-    requires { ⌜ Ready purpose (now table) ⌝ }
+// A marked one, by the purpose.
+fn add_marked(purpose: Purpose, powers: &[u64], sums: Sums, r: &[u8]) -> Added
+    requires { ⌜ Ready purpose (now powers) ⌝ }
     requires { ⌜ Room sums ⌝ }
     requires { ⌜ (sums .used < 96) × (length (now r) ≡ 32) ⌝ }
-    ensures { λ t. ⌜ ((points : List Point) → Curved purpose curve (now (table .entry)) points → t ≡ addedAnswer (taken purpose points sums (beforeOf (now (r .entry)))))
+    ensures { λ t. ⌜ ((choice : Choice) → Means purpose (now (powers .entry)) choice
+        → t ≡ addedAnswer (taken choice sums (beforeOf (now (r .entry)))))
         × RoomAdded sums t ⌝ }
 {
     match purpose {
-        Purpose::Four(pn) => add_four(pn, curve, table, sums, r),
+        Purpose::Four(pn, curve) => add_four(pn, curve, powers, sums, r),
         Purpose::First => add_first(sums, r),
         Purpose::All => add_all(sums, r),
     }
 }
 
-// The one walk along a measure's chain of before-quarters, for the sums over them (document 01, 'Reference power T').
+// ---- the walk
 
-// The before-quarters met, whether every field read so far is in range, and the sums.
-pub struct Walk {
-    pub count: u64,
-    pub fine: bool,
-    pub sums: Sums,
-}
-
-// One more before-quarter, from its own 32 bytes. Once a field is out of range, or above 96, no more is added: 9 or 8 is the answer then.
-fn step(purpose: Purpose, curve: Curve, table: &[u64], walk: Walk, r: &[u8]) -> Walk
-    requires { ⌜ Ready purpose (now table) ⌝ }
+// One more before-quarter. Once a field is out of range, or above 96, no more is added: 9 or 8 is the answer then.
+fn step(purpose: Purpose, powers: &[u64], walk: Walk, r: &[u8]) -> Walk
+    requires { ⌜ Ready purpose (now powers) ⌝ }
     requires { ⌜ RoomIn walk ⌝ }
     requires { ⌜ (walk .count < 65536) × (length (now r) ≡ 32) ⌝ }
-    ensures { λ w. ⌜ ((points : List Point) → Curved purpose curve (now (table .entry)) points → w ≡ stepped purpose points walk (now (r .entry)))
-        × RoomIn w × (w .count ≡ walk .count + 1) ⌝ }
+    ensures { λ next. ⌜ Stepped purpose (now (powers .entry)) walk (now (r .entry)) next ⌝ }
 {
     let mut next = walk;
     next.count = walk.count + 1;
@@ -179,17 +186,12 @@ fn step(purpose: Purpose, curve: Curve, table: &[u64], walk: Walk, r: &[u8]) -> 
     if 96 <= walk.count {
         return next;
     }
-    let Added::To(sums) = add_marked(purpose, curve, table, walk.sums, r) else {
+    let Added::To(sums) = add_marked(purpose, powers, walk.sums, r) else {
         next.fine = false;
         return next;
     };
     next.sums = sums;
     next
-}
-
-pub enum Gathered {
-    Of(Walk),
-    Refused(u64),
 }
 
 // After the walk: 8, then 9.
@@ -206,18 +208,13 @@ fn passed(walk: Walk) -> Gathered
     Gathered::Of(walk)
 }
 
-// The chain of before-quarters is walked whole (2, 3), then 8, then 9.
-pub fn gather(
-    archive: &[u8],
-    place: Place,
-    purpose: Purpose,
-    curve: Curve,
-    table: &[u64],
-) -> Gathered
+// The chain of before-quarters is walked whole (2, 3), then 8, then 9. `powers` are the curve's by speed; without a curve they are
+// empty, and not read.
+pub fn gather(archive: &[u8], place: Place, purpose: Purpose, powers: &[u64]) -> Gathered
     requires { ⌜ Lies (now archive) place ⌝ }
-    requires { ⌜ Ready purpose (now table) ⌝ }
-    ensures { λ r. ⌜ ((points : List Point) → Curved purpose curve (now (table .entry)) points
-        → r ≡ gatheredAnswer (gatheredOf purpose points (now (archive .entry)) (meant (now (archive .entry)) place)))
+    requires { ⌜ Ready purpose (now powers) ⌝ }
+    ensures { λ r. ⌜ ((choice : Choice) → Means purpose (now (powers .entry)) choice
+        → r ≡ gatheredAnswer (gatheredOf choice (now (archive .entry)) (meant (now (archive .entry)) place)))
         × RoomGathered r ⌝ }
 {
     let used = place.used;
@@ -238,7 +235,7 @@ pub fn gather(
             return Gathered::Refused(chains::refusal_of(answer, 0));
         };
         let i = n as usize;
-        walk = step(purpose, curve, table, walk, &archive[32 * i..32 * i + 32]);
+        walk = step(purpose, powers, walk, &archive[32 * i..32 * i + 32]);
         last = n;
         link = record::link_of(archive, n, 4);
     }

@@ -1,15 +1,17 @@
 -- `comparison::add_first` meets its contract.
 use mathlib.Core.Path.{sym, _∙_}
-use borrow.Author.Needs.{needs}
+use native.Mathlib.Omega.{arith}
 use borrow.Author.Tests.{not-true, not-false}
-use Rattle.comparison.proofs.Taken.{grown-none, grown-only, first-full, first-out, first-used}
+use Rattle.comparison.proofs.Taken.{grown-none, grown-only, one-full, one-out, one-used}
+use borrow.Author.Needs.{needs}
 use Rattle.comparison.proofs.add_first.Statement.{statement}
 use Rattle.comparison.proofs.add_first.Tie as tie
 
 returns : tie.Need-returns
 returns c =
-    let a = c .before .before .before .args in
-    ((λ points. first-full points (a .sums) (a .r .now) (c .if1 .taken)), grown-none (a .sums) (c .before .before .before .pre .0))
+    let p = c .before .before .before in
+    let a = p .args in
+    (one-full (a .sums) (a .r .now) (λ z. omega arith), grown-none (p .pre .0))
 
 measured-of-requires : tie.Need-measured-of-requires
 measured-of-requires c κs = search needs
@@ -20,8 +22,8 @@ in-power-range-requires c κs = search needs
 returns-2 : tie.Need-returns-2
 returns-2 c =
     let a = c .before .before .before .before .before .before .args in
-    let m = c .before .before .measured-of in
-    ((λ points. first-out points (a .sums) (a .r .now) (m .result .0) (m .ensures) (sym (c .before .in-power-range .ensures) ∙ not-true _ (c .if2 .taken)) (c .before .before .before .if1 .left)), tt)
+    let out = sym (c .before .in-power-range .ensures) ∙ not-true _ (c .if2 .taken) in
+    (one-out (a .sums) (a .r .now) (c .before .before .measured-of .ensures) out (omega arith), tt)
 
 raised-requires : tie.Need-raised-requires
 raised-requires c κs = sym (c .before .in-power-range .ensures) ∙ not-false _ (c .if2 .left)
@@ -29,8 +31,9 @@ raised-requires c κs = sym (c .before .in-power-range .ensures) ∙ not-false _
 returns-3 : tie.Need-returns-3
 returns-3 c =
     let a = c .before .before .before .before .before .before .before .args in
-    let m = c .before .before .before .measured-of in
-    ((λ points. first-used points (a .sums) (a .r .now) (m .result .0) (m .ensures) (sym (c .before .before .in-power-range .ensures) ∙ not-false _ (c .before .if2 .left)) (c .raised .result) (c .raised .ensures .0) (c .before .before .before .before .if1 .left)), grown-only (a .sums) (c .before .before .before .before .before .before .before .pre .0) (c .raised .result) (c .raised .ensures .1))
+    let range = sym (c .before .before .in-power-range .ensures) ∙ not-false _ (c .before .if2 .left) in
+    let power = c .raised in
+    (one-used (a .sums) (a .r .now) (c .before .before .before .measured-of .ensures) range (power .result) (power .ensures .0) (omega arith), grown-only (a .sums) (power .ensures .1))
 
 pub add-first-spec : {M : Type 1} → statement M
 add-first-spec =

@@ -1,18 +1,18 @@
 -- `comparison::add_four` meets its contract.
 use mathlib.Core.Path.{sym, ap, _∙_}
-use Prim.Native.Nat.{_≤_}
 use native.Mathlib.Omega.{arith}
-use borrow.Author.Needs.{needs}
 use borrow.Author.Tests.{not-true, not-false}
 use Rattle.rules.specs.Numbers.{orZero}
 use Rattle.comparison.proofs.Taken.{grown-none, grown-one, four-full, four-out, four-low, four-weather, four-used}
+use borrow.Author.Needs.{needs}
 use Rattle.comparison.proofs.add_four.Statement.{statement}
 use Rattle.comparison.proofs.add_four.Tie as tie
 
 returns : tie.Need-returns
 returns c =
-    let a = c .before .before .before .before .args in
-    ((λ points t. four-full points (a .sums) (a .r .now) (a .pn) (c .if1 .taken)), grown-none (a .sums) (c .before .before .before .before .pre .1 .0))
+    let p = c .before .before .before .before in
+    let a = p .args in
+    ((λ points t. four-full (a .sums) (a .r .now) (orZero (a .pn .0)) points (omega arith)), grown-none (p .pre .1 .0))
 
 measured-of-requires : tie.Need-measured-of-requires
 measured-of-requires c κs = search needs
@@ -23,23 +23,31 @@ in-power-range-requires c κs = search needs
 returns-2 : tie.Need-returns-2
 returns-2 c =
     let a = c .before .before .before .before .before .before .before .args in
-    let m = c .before .before .measured-of in
-    ((λ points t. four-out points (a .sums) (a .r .now) (m .result .0) (m .ensures) (sym (c .before .in-power-range .ensures) ∙ not-true _ (c .if2 .taken)) (a .pn) (omega arith)), tt)
+    let out = sym (c .before .in-power-range .ensures) ∙ not-true _ (c .if2 .taken) in
+    ((λ points t. four-out (a .sums) (a .r .now) (c .before .before .measured-of .ensures) out (orZero (a .pn .0)) points (omega arith)), tt)
 
 raised-requires : tie.Need-raised-requires
 raised-requires c κs = sym (c .before .in-power-range .ensures) ∙ not-false _ (c .if2 .left)
 
+unsigned-requires : tie.Need-unsigned-requires
+unsigned-requires c κs = search needs
+
+add-least : tie.Need-add-least
+add-least c = search needs
+
 mul-if3 : tie.Need-mul-if3
 mul-if3 c = search needs
 
-add-if3 : tie.Need-add-if3
-add-if3 c = search needs
-
 returns-3 : tie.Need-returns-3
 returns-3 c =
-    let a = c .before .before .before .before .before .before .before .before .before .args in
-    let m = c .before .before .before .before .measured-of in
-    ((λ points t. four-low points (a .sums) (a .r .now) (m .result .0) (m .ensures) (sym (c .before .before .before .in-power-range .ensures) ∙ not-false _ (c .before .before .if2 .left)) (c .before .raised .result) (c .before .raised .ensures .0) (a .pn) (omega arith) (c .if3 .taken)), grown-none (a .sums) (c .before .before .before .before .before .before .before .before .before .pre .1 .0))
+    let p = c .before .before .before .before .before .before .before .before .before .before in
+    let a = p .args in
+    let range = sym (c .before .before .before .before .in-power-range .ensures) ∙ not-false _ (c .before .before .before .if2 .left) in
+    let power = c .before .before .raised in
+    let least = c .before .unsigned .ensures in (
+      (λ points t. four-low (a .sums) (a .r .now) (c .before .before .before .before .before .measured-of .ensures) range (power .result) (power .ensures .0) (orZero (a .pn .0)) points (omega arith) (omega arith)),
+      grown-none (p .pre .1 .0),
+    )
 
 weather-of-requires : tie.Need-weather-of-requires
 weather-of-requires c κs = search needs
@@ -49,10 +57,13 @@ is-speed-requires c κs = search needs
 
 returns-4 : tie.Need-returns-4
 returns-4 c =
-    let a = c .before .before .before .before .before .before .before .before .before .before .before .before .args in
-    let m = c .before .before .before .before .before .before .before .measured-of in (
-      (λ points t. four-weather points (a .sums) (a .r .now) (m .result .0) (m .ensures) (sym (c .before .before .before .before .before .before .in-power-range .ensures) ∙ not-false _ (c .before .before .before .before .before .if2 .left)) (c .before .before .before .before .raised .result) (c .before .before .before .before .raised .ensures .0) (a .pn) (omega arith) (omega arith)
-          (c .before .before .weather-of .result) (c .before .before .weather-of .ensures .0) (sym (c .before .is-speed .ensures) ∙ not-true _ (c .if4 .taken))),
+    let a = c .before .before .before .before .before .before .before .before .before .before .before .before .before .args in
+    let range = sym (c .before .before .before .before .before .before .before .in-power-range .ensures) ∙ not-false _ (c .before .before .before .before .before .before .if2 .left) in
+    let power = c .before .before .before .before .before .raised in
+    let least = c .before .before .before .before .unsigned .ensures in
+    let out = sym (c .before .is-speed .ensures) ∙ not-true _ (c .if4 .taken) in (
+      (λ points t. four-weather (a .sums) (a .r .now) (c .before .before .before .before .before .before .before .before .measured-of .ensures) range (power .result) (power .ensures .0) (orZero (a .pn .0)) points (omega arith) (omega arith)
+          (c .before .before .weather-of .ensures .0) out),
       tt,
     )
 
@@ -62,25 +73,27 @@ speed-of-requires c κs = (search needs, sym (c .before .is-speed .ensures) ∙ 
 power-at-requires : tie.Need-power-at-requires
 power-at-requires c κs = search needs
 
-sub-plus : tie.Need-sub-plus
-sub-plus c = search needs
-
-unsigned-requires : tie.Need-unsigned-requires
-unsigned-requires c κs = c .power-at .ensures .1
+unsigned-requires-2 : tie.Need-unsigned-requires-2
+unsigned-requires-2 c κs = search needs
 
 plus-requires : tie.Need-plus-requires
-plus-requires c κs = let u : c .unsigned .result ≤ 1000000000 = omega (arith, c .unsigned .ensures, c .before .power-at .ensures .2) in search needs
+plus-requires c κs = search needs
 
 returns-5 : tie.Need-returns-5
 returns-5 c =
-    let a = c .before .before .before .before .before .before .before .before .before .before .before .before .before .before .before .before .args in
-    let m = c .before .before .before .before .before .before .before .before .before .before .before .measured-of in
-    let v = c .before .before .power-at in
-    let u = c .before .unsigned in (
-      (λ points t. four-used points (a .sums) (a .r .now) (m .result .0) (m .ensures) (sym (c .before .before .before .before .before .before .before .before .before .before .in-power-range .ensures) ∙ not-false _ (c .before .before .before .before .before .before .before .before .before .if2 .left)) (c .before .before .before .before .before .before .before .before .raised .result) (c .before .before .before .before .before .before .before .before .raised .ensures .0) (a .pn) (omega arith) (omega arith)
-          (c .before .before .before .before .before .before .weather-of .result) (c .before .before .before .before .before .before .weather-of .ensures .0) (sym (c .before .before .before .before .before .is-speed .ensures) ∙ not-false _ (c .before .before .before .before .if4 .left))
-          (c .before .before .before .speed-of .result .0) (u .result) (c .plus .result) (c .before .before .before .speed-of .ensures .0) (u .ensures ∙ ap orZero (v .ensures .0 points t)) (c .plus .ensures)),
-      grown-one (a .sums) (c .before .before .before .before .before .before .before .before .before .before .before .before .before .before .before .before .pre .1 .0) (c .plus .result) _ _ (c .plus .ensures) (omega arith) (omega arith) (omega (arith, u .ensures, v .ensures .2)),
+    let p = c .before .before .before .before .before .before .before .before .before .before .before .before .before .before .before .before .before in
+    let a = p .args in
+    let range = sym (c .before .before .before .before .before .before .before .before .before .before .before .in-power-range .ensures) ∙ not-false _ (c .before .before .before .before .before .before .before .before .before .before .if2 .left) in
+    let power = c .before .before .before .before .before .before .before .before .before .raised in
+    let few = c .before .before .before .before .before .before .before .before .before .before .before .before .before .if1 .left in
+    let least = c .before .before .before .before .before .before .before .before .unsigned .ensures in
+    let weather = sym (c .before .before .before .before .before .is-speed .ensures) ∙ not-false _ (c .before .before .before .before .if4 .left) in
+    let read = c .before .before .power-at .ensures in
+    let on-curve = c .before .unsigned2 in (
+      (λ points t. four-used (a .sums) (a .r .now) (c .before .before .before .before .before .before .before .before .before .before .before .before .measured-of .ensures) range (power .result) (power .ensures .0) (orZero (a .pn .0)) points (omega arith) (omega arith)
+          (c .before .before .before .before .before .before .weather-of .ensures .0) weather (c .before .before .before .speed-of .ensures .0) (on-curve .ensures ∙ ap orZero (read .0 points t)) (c .plus .ensures)),
+      grown-one (c .plus .ensures)
+          (record { room = p .pre .1 .0; few = omega arith; low-a = power .ensures .1; low-b = omega (arith, on-curve .ensures, read .2) }),
     )
 
 pub add-four-spec : {M : Type 1} → statement M
@@ -92,15 +105,15 @@ add-four-spec =
     in-power-range-requires
     returns-2
     raised-requires
+    unsigned-requires
+    add-least
     mul-if3
-    add-if3
     returns-3
     weather-of-requires
     is-speed-requires
     returns-4
     speed-of-requires
     power-at-requires
-    sub-plus
-    unsigned-requires
+    unsigned-requires-2
     plus-requires
     returns-5)

@@ -1,6 +1,6 @@
 -- `comparison::add_marked` meets its contract.
+use Rattle.comparison.proofs.Taken.{scaled, adds-four, adds-first, adds-all}
 use borrow.Author.Needs.{needs}
-use Rattle.comparison.proofs.Purposes.{ready-four, adds-four, adds-first, adds-all}
 use Rattle.comparison.proofs.add_marked.Statement.{statement}
 use Rattle.comparison.proofs.add_marked.Tie as tie
 
@@ -9,9 +9,8 @@ enum-known-purpose c = search needs
 
 add-four-requires : tie.Need-add-four-requires
 add-four-requires c κs =
-    let p = c .before .before .before .before .before in
-    let e = c .before .purpose .given in
-    (ready-four (p .args .purpose) (p .args .curve) (p .args .table .now) (e .0 .0) (e .1) (p .pre .0), (p .pre .1 .0, p .pre .1 .1 .1))
+    let p = c .before .before .before .before .before .pre in
+    (scaled (c .before .purpose .given .1) (p .0), (p .1 .0, p .1 .1 .1))
 
 enum-told : tie.Need-enum-told
 enum-told c = search needs
@@ -29,17 +28,20 @@ returns : tie.Need-returns
 returns c =
     let a = c .before .before .before .before .before .before .args in
     let e = c .before .before .purpose .given in
-    (adds-four (a .purpose) (a .curve) (a .table .now) (a .sums) (a .r .now) _ (e .0 .0) (e .1) (c .add-four .ensures .0), c .add-four .ensures .1)
+    let f = c .add-four .ensures in
+    (adds-four (a .purpose) (a .powers .now) (a .sums) (a .r .now) _ (e .0 .0) (e .0 .1 .0) (e .1) (f .0), f .1)
 
 returns-2 : tie.Need-returns-2
 returns-2 c =
     let a = c .before .before .before .before .before .args in
-    (adds-first (a .purpose) (a .curve) (a .table .now) (a .sums) (a .r .now) _ (c .before .enum-told .given .1) (c .add-first .ensures .0), c .add-first .ensures .1)
+    let f = c .add-first .ensures in
+    (adds-first (a .purpose) (a .powers .now) (a .sums) (a .r .now) _ (c .before .enum-told .given .1) (f .0), f .1)
 
 returns-3 : tie.Need-returns-3
 returns-3 c =
     let a = c .before .before .before .before .before .args in
-    (adds-all (a .purpose) (a .curve) (a .table .now) (a .sums) (a .r .now) _ (c .before .enum-told2 .given .1) (c .add-all .ensures .0), c .add-all .ensures .1)
+    let f = c .add-all .ensures in
+    (adds-all (a .purpose) (a .powers .now) (a .sums) (a .r .now) _ (c .before .enum-told2 .given .1) (f .0), f .1)
 
 pub add-marked-spec : {M : Type 1} → statement M
 add-marked-spec =
