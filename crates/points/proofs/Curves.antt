@@ -24,7 +24,7 @@ use Rattle.curve.specs.Tables.{tableReading, Low, Tabulates}
 use Rattle.curve.specs.Lines.{InRange, Piece}
 use Rattle.curve.proofs.Fills.{either-side, set-low, next-size, next-before, next-line, next-point, next-low}
 use Rattle.points.specs.declared.CurveAnswer.the-variants.{Read, Refused}
-use Rattle.points.specs.Steps.{Walk, walk, noPoints, lastRead, counted, withNext, withPoint, answerOf}
+use Rattle.points.specs.Steps.{Walk, walk, noPoints, lastRead, counted, withNext, withPoint, curveOf, answerOf}
 use Rattle.points.specs.Answers.{CurveRead}
 use Rattle.points.proofs.Points.{stepped, onward, points, allowed, all-counted, all-tested, followed, all-followed, all-in-range, onward-next, all-rise}
 
@@ -103,7 +103,7 @@ module _ (whole : List Point) (t : T (rising whole)) where
   upto-all [] w none u = u
   upto-all (b ∷ rest) w (more h hs) u = upto-all rest (onward b w) hs (upto-next b rest w h u)
 
-  tabulated : (w : Walk) → Upto whole [] w → Tabulates (record { first = w .read .first; last = w .read .last }) (w .powers) whole
+  tabulated : (w : Walk) → Upto whole [] w → Tabulates (curveOf (w .read)) (w .powers) whole
   tabulated w u = record {
     size = u .size;
     agrees = λ v h. at v (either-side v (w .read .first)) (either-side (w .read .last) v);
@@ -111,7 +111,7 @@ module _ (whole : List Point) (t : T (rising whole)) where
   }
     where
       at : (v : ℕ) → (v < w .read .first) ⊎ (w .read .first ≤ v) → (w .read .last < v) ⊎ (v ≤ w .read .last)
-          → tableReading (record { first = w .read .first; last = w .read .last }) (w .powers) v ≡ readCurve whole v
+          → tableReading (curveOf (w .read)) (w .powers) v ≡ readCurve whole v
       at v (inl x) y = rw (lt-ltb v (w .read .first) x) (sym (u .starts v x))
       at v (inr x) (inl y) =
           rw (le-ltb v (w .read .first) x, lt-ltb (w .read .last) v y)
@@ -143,7 +143,7 @@ module _ (powers : List ℕ) where
 
   end-answer : (es : List Entry) → answerOf (end es .read)
       ≡ cond (allowed es)
-      (cond (leb 2 (length es) && rising (points es)) (Read (record { first = end es .read .first; last = end es .read .last }) (length es)) (Refused badCurve))
+      (cond (leb 2 (length es) && rising (points es)) (Read (curveOf (end es .read)) (length es)) (Refused badCurve))
       (Refused outOfRange)
   unfolding answerOf
   end-answer es = go (allowed es) (all-tested (walk noPoints powers) es) (end-rising es)
@@ -153,17 +153,17 @@ module _ (powers : List ℕ) where
 
       go : (t : Bool) → end es .read .allowed ≡ t → (t ≡ true → end es .read .rising ≡ rising (points es)) → answerOf (end es .read)
           ≡ cond t
-          (cond (leb 2 (length es) && rising (points es)) (Read (record { first = end es .read .first; last = end es .read .last }) (length es)) (Refused badCurve))
+          (cond (leb 2 (length es) && rising (points es)) (Read (curveOf (end es .read)) (length es)) (Refused badCurve))
           (Refused outOfRange)
       go true e f = rw (e, count, f refl)
       go false e f = rw e
 
   module _ (size : length powers ≡ 1001) (low : Low powers) where
     end-tabulates : (es : List Entry) → allowed es ≡ true → (leb 2 (length es) && rising (points es)) ≡ true
-        → Tabulates (record { first = end es .read .first; last = end es .read .last }) (end es .powers) (points es)
+        → Tabulates (curveOf (end es .read)) (end es .powers) (points es)
     end-tabulates [] h k = absurd (false≢true k)
     end-tabulates (e ∷ es) h k =
-        subst (λ (w : Walk). Tabulates (record { first = w .read .first; last = w .read .last }) (w .powers) (points (e ∷ es))) (sym (all-followed (walk noPoints powers) (e ∷ es) h))
+        subst (λ (w : Walk). Tabulates (curveOf (w .read)) (w .powers) (points (e ∷ es))) (sym (all-followed (walk noPoints powers) (e ∷ es) h))
         (ends (all-in-range (e ∷ es) h))
       where
         t : T (rising (points (e ∷ es)))
@@ -171,7 +171,7 @@ module _ (powers : List ℕ) where
 
         ends : All InRange (points (e ∷ es))
             → let w = followed (walk noPoints powers) (points (e ∷ es)) in
-            Tabulates (record { first = w .read .first; last = w .read .last }) (w .powers) (points (e ∷ es))
+            Tabulates (curveOf (w .read)) (w .powers) (points (e ∷ es))
         ends (more f fs) =
             tabulated (points (e ∷ es)) t (followed (walk noPoints powers) (points (e ∷ es)))
             (upto-all (points (e ∷ es)) t (points es) (onward (pointOf (e .bytes)) (walk noPoints powers)) fs
@@ -186,7 +186,7 @@ module _ (powers : List ℕ) where
         go false e u f = rw e (end-answer es ∙ rw e)
         go true e false f = rw (e, f) (end-answer es ∙ rw (e, f))
         go true e true f = rw (e, f) (record {
-          curve = record { first = end es .read .first; last = end es .read .last };
+          curve = curveOf (end es .read);
           is = end-answer es ∙ rw (e, f, length-map es (λ e. pointOf (e .bytes)));
           tabulates = end-tabulates es e f;
         })

@@ -15,7 +15,7 @@ use Rattle.rules.proofs.Sound.{both}
 use Rattle.curve.specs.Lines.{point, filled}
 use Rattle.points.specs.declared.PointsRead.{PointsRead}
 use Rattle.points.specs.declared.CurveAnswer.the-variants.{Read, Refused}
-use Rattle.points.specs.Steps.{Walk, walk, lastRead, counted, withFirst, withNext, withNotRising, withPoint, withOutOfRange, withRecord, answerOf}
+use Rattle.points.specs.Steps.{Walk, walk, lastRead, counted, withFirst, withNext, withNotRising, withPoint, withOutOfRange, withRecord, curveOf, answerOf}
 
 -- ---- a point in range
 
@@ -96,6 +96,6 @@ module _ (p : PointsRead) where
       unfolding answerOf
       answer-not-rising f = rw (e, le-leb 2 (p .count) h, f)
 
-      pub answer-read : p .rising ≡ true → Read (record { first = p .first; last = p .last }) (p .count) ≡ answerOf p
+      pub answer-read : p .rising ≡ true → Read (curveOf p) (p .count) ≡ answerOf p
       unfolding answerOf
       answer-read f = rw (e, le-leb 2 (p .count) h, f)

@@ -7,6 +7,7 @@ use lib.Dec.{eqb, leb, ltb}
 use lib.ListN.{length, set}
 use Rattle.rules.specs.Refusals.{outOfRange, badCurve}
 use Rattle.rules.specs.Terms.{Point, pointOf, pointAllowed}
+use Rattle.curve.specs.declared.Curve.{Curve}
 use Rattle.curve.specs.Lines.{InRange, point, filled}
 use Rattle.points.specs.declared.PointsRead.{PointsRead}
 use Rattle.points.specs.declared.CurveAnswer.{CurveAnswer}
@@ -78,9 +79,13 @@ unfoldable pub withRecord : List ℕ → Walk → Walk
 withRecord r w =
     cond (pointAllowed r) (withPoint (pointOf r) (walk (counted (w .read)) (w .powers))) (withOutOfRange (counted (w .read)) (w .powers))
 
+-- the curve from the first point to the last
+abbrev pub curveOf : PointsRead → Curve
+curveOf p = record { first = p .first; last = p .last }
+
 -- after the walk: 9, then 10
 unfoldable pub answerOf : PointsRead → CurveAnswer
 answerOf p =
     cond (p .allowed)
-    (cond (leb 2 (p .count) && p .rising) (Read (record { first = p .first; last = p .last }) (p .count)) (Refused badCurve))
+    (cond (leb 2 (p .count) && p .rising) (Read (curveOf p) (p .count)) (Refused badCurve))
     (Refused outOfRange)
