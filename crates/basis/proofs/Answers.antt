@@ -80,6 +80,7 @@ module _ (pn : ℕ) (points : List Point) where
 
   pub wind-is : (archive : List ℕ) (place : Place) → pn ≡ place .terms .nominalPower
       → windOf archive place points ≡ (gatheredOf (firstFour pn points) archive place >>= λ v. rest (firstFour pn points) (length points + v .count) (v .sums) [])
+  unfolding beforesOf windBasis
   wind-is archive place e = rw (← e) (based-is (firstFour pn points) (length points) (windBasis pn points) wind-starts archive place)
 
 -- wind and other Pauschal
@@ -137,7 +138,7 @@ module _ (o : Outcome Walk) (x : Gathered) (a : x ≡ gatheredAnswer o) where
 
     pub based-of : (w : Walk) → x ≡ gathered.Of w → (r : Based) → Finds (k w) powers r → Finds basis powers r
     unfolding _>>=_
-    based-of w t r f = subst (λ (y : Outcome Basis). Finds y powers r) (sym (rw (is, gathered-of w t))) f
+    based-of w t r f = let e : basis ≡ k w = rw (is, gathered-of w t) in subst (λ (y : Outcome Basis). Finds y powers r) (sym e) f
 
 pub room-of : (x : Gathered) (w : Walk) → x ≡ gathered.Of w → RoomGathered x → RoomIn w × (w .count ≤ 96)
 room-of x w e h = subst RoomGathered e h
@@ -158,12 +159,12 @@ module _ (links : ℕ) (s : Sums) (powers : List ℕ) where
   module _ (pn : ℕ) (points : List Point) where
     pub four-few : (s .used ≡ 4 → ⊥) → Finds (rest (firstFour pn points) links s []) powers (Refused tooFewUsable)
     unfolding rest _>>_ require
-    four-few z = finds-refused _ powers _ tooFewUsable (rw (none (s .used), ne-eqb (s .used) 4 z)) refl
+    four-few z = finds-refused (rest (firstFour pn points) links s []) powers _ tooFewUsable (rw (none (s .used), ne-eqb (s .used) 4 z)) refl
 
     module _ (enough : s .used ≡ 4) where
       pub four-zero : s .b ≡ 0 → Finds (rest (firstFour pn points) links s []) powers (Refused divisorZero)
       unfolding rest _>>_ require
-      four-zero z = finds-refused _ powers _ divisorZero (rw (none (s .used), eq-eqb (s .used) 4 enough, none (s .b), le-ltb 0 (s .b) (omega arith))) refl
+      four-zero z = finds-refused (rest (firstFour pn points) links s []) powers _ divisorZero (rw (none (s .used), eq-eqb (s .used) 4 enough, none (s .b), le-ltb 0 (s .b) (omega arith))) refl
 
       pub four-on : (s .b ≡ 0 → ⊥) → (a b p : Watt) (curve : Curve) → Tabulates curve powers points
           → a .0 ≡ subℕ (s .a) 4000000000 → b .0 ≡ subℕ (s .b) 0 → p .0 ≡ pos (orZero (p .0)) → orZero (p .0) ≡ pn
@@ -172,7 +173,7 @@ module _ (links : ℕ) (s : Sums) (powers : List ℕ) where
       four-on z a b p curve t ea eb np ep =
           let four : powerBias * s .used ≡ 4000000000 = omega arith in
           let nb : b .0 ≡ pos (s .b) = eb ∙ natural (s .b) in
-          finds-given _ powers _ (record { reference = onCurve (subℕ (s .a) 4000000000) (s .b) pn points; links = links })
+          finds-given (rest (firstFour pn points) links s []) powers _ (record { reference = onCurve (subℕ (s .a) 4000000000) (s .b) pn points; links = links })
           (rw (none (s .used), eq-eqb (s .used) 4 enough, none (s .b), lt-ltb 0 (s .b) (omega arith), four, +ℤ-idr (subℕ (s .a) 4000000000)))
           (found-on powers _ (record {
             points = points;
@@ -184,28 +185,28 @@ module _ (links : ℕ) (s : Sums) (powers : List ℕ) where
 
   pub first-few : s .used ≡ 0 → Finds (rest firstOne links s []) powers (Refused tooFewUsable)
   unfolding rest firstMarked
-  first-few z = finds-refused _ powers _ tooFewUsable (rw (eq-eqb (s .used) 0 z)) refl
+  first-few z = finds-refused (rest firstOne links s []) powers _ tooFewUsable (rw (eq-eqb (s .used) 0 z)) refl
 
   pub first-on : (s .used ≡ 0 → ⊥) → (p : Watt) → p .0 ≡ subℕ (s .a) powerBias
       → Finds (rest firstOne links s []) powers (On (record { reference = LastMeasured p; links = links }))
   unfolding rest
   first-on z p e =
-      finds-given _ powers _ (record { reference = lastMeasured (subℕ (s .a) powerBias); links = links }) (rw (ne-eqb (s .used) 0 z))
+      finds-given (rest firstOne links s []) powers _ (record { reference = lastMeasured (subℕ (s .a) powerBias); links = links }) (rw (ne-eqb (s .used) 0 z))
       (found-on powers _ (ap lastMeasured (sym e)) refl)
 
   pub all-few : s .used ≡ 0 → Finds (rest everyOne links s []) powers (Refused tooFewUsable)
   unfolding rest _>>_ require
-  all-few z = finds-refused _ powers _ tooFewUsable (rw (none (s .used), lt-leb 1 (s .used) (omega arith))) refl
+  all-few z = finds-refused (rest everyOne links s []) powers _ tooFewUsable (rw (none (s .used), lt-leb 1 (s .used) (omega arith))) refl
 
   module _ (enough : s .used ≡ 0 → ⊥) where
     pub all-zero : s .b ≡ 0 → Finds (rest everyOne links s []) powers (Refused divisorZero)
     unfolding rest _>>_ require
-    all-zero z = finds-refused _ powers _ divisorZero (rw (none (s .used), le-leb 1 (s .used) (omega arith), none (s .b), le-ltb 0 (s .b) (omega arith))) refl
+    all-zero z = finds-refused (rest everyOne links s []) powers _ divisorZero (rw (none (s .used), le-leb 1 (s .used) (omega arith), none (s .b), le-ltb 0 (s .b) (omega arith))) refl
 
     pub all-on : (s .b ≡ 0 → ⊥) → (a : Watt) → a .0 ≡ subℕ (s .a) (powerBias * s .used)
         → Finds (rest everyOne links s []) powers (On (record { reference = OnIrradiance a (record { 0 = s .b }); links = links }))
     unfolding rest _>>_ require
     all-on z a e =
-        finds-given _ powers _ (record { reference = onIrradiance (subℕ (s .a) (powerBias * s .used)) (s .b); links = links })
+        finds-given (rest everyOne links s []) powers _ (record { reference = onIrradiance (subℕ (s .a) (powerBias * s .used)) (s .b); links = links })
         (rw (none (s .used), le-leb 1 (s .used) (omega arith), none (s .b), lt-ltb 0 (s .b) (omega arith), +ℤ-idr (subℕ (s .a) (powerBias * s .used))))
         (found-on powers _ (ap (λ (y : ℤ). onIrradiance y (s .b)) (sym e)) refl)

@@ -80,7 +80,7 @@ fn plus(sums: Sums, a: u64, b: u64) -> Sums
 }
 
 // For wind Spitz. 10 × measured ≥ Pn is tested on the raised power.
-fn add_four(pn: Watt, curve: Curve, powers: &[u64], sums: Sums, r: &[u8]) -> Added
+fn add_four(pn: Watt, curve: Curve, powers: &[u32], sums: Sums, r: &[u8]) -> Added
     requires { ⌜ Scaled pn (now powers) ⌝ }
     requires { ⌜ Room sums ⌝ }
     requires { ⌜ length (now r) ≡ 32 ⌝ }
@@ -146,7 +146,7 @@ fn add_all(sums: Sums, r: &[u8]) -> Added
 }
 
 // A marked one, by the purpose.
-fn add_marked(purpose: Purpose, powers: &[u64], sums: Sums, r: &[u8]) -> Added
+fn add_marked(purpose: Purpose, powers: &[u32], sums: Sums, r: &[u8]) -> Added
     requires { ⌜ Ready purpose (now powers) ⌝ }
     requires { ⌜ Room sums ⌝ }
     requires { ⌜ (sums .used < 96) × (length (now r) ≡ 32) ⌝ }
@@ -164,7 +164,7 @@ fn add_marked(purpose: Purpose, powers: &[u64], sums: Sums, r: &[u8]) -> Added
 // ---- the walk
 
 // One more before-quarter. Once a field is out of range, or above 96, no more is added: 9 or 8 is the answer then.
-fn step(purpose: Purpose, powers: &[u64], walk: Walk, r: &[u8]) -> Walk
+fn step(purpose: Purpose, powers: &[u32], walk: Walk, r: &[u8]) -> Walk
     requires { ⌜ Ready purpose (now powers) ⌝ }
     requires { ⌜ RoomIn walk ⌝ }
     requires { ⌜ (walk .count < 65536) × (length (now r) ≡ 32) ⌝ }
@@ -210,7 +210,7 @@ fn passed(walk: Walk) -> Gathered
 
 // The chain of before-quarters is walked whole (2, 3), then 8, then 9. `powers` are the curve's by speed; without a curve they are
 // empty, and not read.
-pub fn gather(archive: &[u8], place: Place, purpose: Purpose, powers: &[u64]) -> Gathered
+pub fn gather(archive: &[u8], place: Place, purpose: Purpose, powers: &[u32]) -> Gathered
     requires { ⌜ Lies (now archive) place ⌝ }
     requires { ⌜ Ready purpose (now powers) ⌝ }
     ensures { λ r. ⌜ ((choice : Choice) → Means purpose (now (powers .entry)) choice

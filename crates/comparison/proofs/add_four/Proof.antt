@@ -91,9 +91,9 @@ returns-5 c =
     let read = c .before .before .power-at .ensures in
     let on-curve = c .before .unsigned2 in (
       (λ points t. four-used (a .sums) (a .r .now) (c .before .before .before .before .before .before .before .before .before .before .before .before .measured-of .ensures) range (power .result) (power .ensures .0) (orZero (a .pn .0)) points (omega arith) (omega arith)
-          (c .before .before .before .before .before .before .weather-of .ensures .0) weather (c .before .before .before .speed-of .ensures .0) (on-curve .ensures ∙ ap orZero (read .0 points t)) (c .plus .ensures)),
+          (c .before .before .before .before .before .before .weather-of .ensures .0) weather (c .before .before .before .speed-of .ensures .0) (on-curve .ensures ∙ ap orZero (read .is points t)) (c .plus .ensures)),
       grown-one (c .plus .ensures)
-          (record { room = p .pre .1 .0; few = omega arith; low-a = power .ensures .1; low-b = omega (arith, on-curve .ensures, read .2) }),
+          (record { room = p .pre .1 .0; few = omega arith; low-a = power .ensures .1; low-b = omega (arith, on-curve .ensures, read .low) }),
     )
 
 pub add-four-spec : {M : Type 1} → statement M

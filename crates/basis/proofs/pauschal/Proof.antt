@@ -1,0 +1,62 @@
+-- `basis::pauschal` meets its contract.
+use mathlib.Core.Path.{refl}
+use native.Mathlib.Omega.{arith}
+use Rattle.place.specs.Places.{meant}
+use native.Mathlib.Nat.{zero-add}
+use Rattle.basis.proofs.Answers.{pauschal-is, based-refused, based-of, room-of, first-few, first-on}
+use Rattle.comparison.specs.Sums.{firstOne}
+use borrow.Author.Needs.{needs}
+use Rattle.basis.proofs.pauschal.Statement.{statement}
+use Rattle.basis.proofs.pauschal.Tie as tie
+
+gather-requires : tie.Need-gather-requires
+gather-requires c κs = search needs
+
+enum-known-first : tie.Need-enum-known-first
+enum-known-first c = search needs
+
+returns : tie.Need-returns
+returns c = let s = c .before .before .before .before .before .before .before .before in
+    let a = s .args in
+    let g = c .before .before .before .before .before .gather in
+    let w = c .before .before .before .first .given in
+    based-of _ (g .result) (g .ensures .0 (firstOne) refl) _ _ (pauschal-is (a .archive .now) (meant (a .archive .now) (a .place))) (a .powers .now) (w .0 .0) (w .1) _
+    (first-few _ (w .0 .0 .sums) (a .powers .now) (c .if1 .taken))
+
+lowered-requires : tie.Need-lowered-requires
+lowered-requires c κs = let s = c .before .before .before .before .before .before .before .before in
+    let a = s .args in
+    let g = c .before .before .before .before .before .gather in
+    let w = c .before .before .before .first .given in
+    let room = room-of (g .result) (w .0 .0) (w .1) (g .ensures .1) in
+    (omega (arith, room .0 .room .low-a, room .0 .room .few), omega arith)
+
+enum-known-n : tie.Need-enum-known-n
+enum-known-n c = search needs
+
+returns-2 : tie.Need-returns-2
+returns-2 c = let s = c .before .before .before .before .before .before .before .before .before in
+    let a = s .args in
+    let g = c .before .before .before .before .before .before .gather in
+    let w = c .before .before .before .before .first .given in
+    based-of _ (g .result) (g .ensures .0 (firstOne) refl) _ _ (pauschal-is (a .archive .now) (meant (a .archive .now) (a .place))) (a .powers .now) (w .0 .0) (w .1) _
+    (rw (zero-add (w .0 .0 .count)) (first-on _ (w .0 .0 .sums) (a .powers .now) (c .before .if1 .left) (c .lowered .result) (c .lowered .ensures)))
+
+returns-3 : tie.Need-returns-3
+returns-3 c = let s = c .before .before .before .before .before .before in
+    let a = s .args in
+    let g = c .before .before .before .gather in
+    let w = c .before .n .given in
+    based-refused _ (g .result) (g .ensures .0 firstOne refl) _ _ (pauschal-is (a .archive .now) (meant (a .archive .now) (a .place))) (a .powers .now) (w .0 .0) (w .1)
+
+pub pauschal-spec : {M : Type 1} → statement M
+pauschal-spec =
+    tie.close
+    (tie.spec
+    gather-requires
+    enum-known-first
+    returns
+    lowered-requires
+    enum-known-n
+    returns-2
+    returns-3)
