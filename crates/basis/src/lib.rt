@@ -11,9 +11,9 @@ use curve::Curve;
 use place::Place;
 use points::CurveAnswer;
 use reference::Reference;
-use rules::refusal;
 use rules::Technology;
 use rules::Variant;
+use rules::refusal;
 use terms::Terms;
 use units::Irradiance;
 

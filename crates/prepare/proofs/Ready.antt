@@ -5,18 +5,21 @@ use Prim.Native.Nat.{ℕ, _+_, _^_, _≤_, _<_}
 use native.Mathlib.Omega.{arith}
 use lib.ListN.{length, take, length-map}
 use Rattle.rules.specs.Outcome.{Outcome, refused, given, _>>=_}
-use Rattle.rules.specs.Terms.{Quarter, directionOf}
-use Rattle.rules.specs.Settle.{Place, Basis, quartersOf, measureDenominator, exactsOf, settlementOf}
+use Rattle.rules.specs.Terms.{Quarter}
+use Rattle.rules.specs.Settle.{Place, Basis, quartersOf, measureDenominator, exactsOf, Settlement, settlementOf}
 use Rattle.rules.proofs.Settled.{quarters-counted, amounts-length}
 use Rattle.quarters.specs.declared.Walked.{Walked}
 use Rattle.quarters.specs.declared.Walked.the-variants as walked
 use Rattle.quarters.specs.Walks.{walkedAnswer, WalkedBy}
 use Rattle.prepare.specs.declared.Measure.{Measure}
 use Rattle.prepare.specs.declared.Prepared.the-variants as prepared
-use Rattle.prepare.specs.Answers.{Prepares, settledOn}
+use Rattle.prepare.specs.Answers.{Prepares}
 
 module _ (archive : List ℕ) (place : Place) (basis : Basis) (sheet : List ℕ) (x : Walked) (w : WalkedBy archive place basis sheet x) where
-  pub walk-refused : (n : ℕ) → x ≡ walked.Refused n → Prepares (settledOn archive place (given basis)) sheet (prepared.Refused n)
+  abbrev settledWith : Basis → Outcome Settlement
+  settledWith b = quartersOf archive place b >>= λ quarters. given (settlementOf place b quarters)
+
+  pub walk-refused : (n : ℕ) → x ≡ walked.Refused n → Prepares (settledWith basis) sheet (prepared.Refused n)
   unfolding Prepares _>>=_
   walk-refused n e = rw (go (quartersOf archive place basis) (sym e ∙ w .answers))
     where
@@ -40,9 +43,9 @@ module _ (archive : List ℕ) (place : Place) (basis : Basis) (sheet : List ℕ)
           let i : count ≡ length quarters = cc in
           record { quarters = quarters; are = q; is = i; few = omega (arith, quarters-counted archive place basis .of quarters q .few) }
 
-  pub stands : (m : Measure) → Counted (m .count) → m .direction ≡ directionOf (place .measure .bytes) → m .denominator ≡ measureDenominator basis
+  pub stands : (m : Measure) → Counted (m .count) → m .direction ≡ place .terms .direction → m .denominator ≡ measureDenominator basis
       → m .links ≡ place .links + basis .links + m .count → 0 < m .denominator → m .denominator ≤ 2 ^ 63
-      → Prepares (settledOn archive place (given basis)) sheet (prepared.Ready m)
+      → Prepares (settledWith basis) sheet (prepared.Ready m)
   unfolding Prepares _>>=_
   stands m c d n l positive low = record {
     settlement = settlementOf place basis (c .quarters);

@@ -20,16 +20,20 @@ returns c = let s = c .before .before .before .before .before .before .before .b
     let a = s .args in
     let g = c .before .before .before .before .before .gather in
     let w = c .before .before .before .four .given in
-    record { on = λ points t h. based-of _ (g .result) (g .ensures .0 (firstFour (orZero (a .place .terms .nominal .0)) points) (points, refl, t)) _ _ (wind-is (orZero (a .place .terms .nominal .0)) points (a .archive .now) (meant (a .archive .now) (a .place)) refl) (a .powers .now) (w .0 .0) (w .1) _
-    (four-few _ (w .0 .0 .sums) (a .powers .now) _ points (c .if1 .taken)) }
+    record {
+      on = λ points t h. based-of _ (g .result) (g .ensures .0 (firstFour (orZero (a .place .terms .nominal .0)) points) (points, refl, t)) _ _ (wind-is (orZero (a .place .terms .nominal .0)) points (a .archive .now) (meant (a .archive .now) (a .place)) refl) (a .powers .now) (w .0 .0) (w .1) _
+          (four-few _ (w .0 .0 .sums) (a .powers .now) _ points (c .if1 .taken));
+    }
 
 returns-2 : tie.Need-returns-2
 returns-2 c = let s = c .before .before .before .before .before .before .before .before .before .before .before in
     let a = s .args in
     let g = c .before .before .before .before .before .before .before .gather in
     let w = c .before .before .before .before .before .four .given in
-    record { on = λ points t h. based-of _ (g .result) (g .ensures .0 (firstFour (orZero (a .place .terms .nominal .0)) points) (points, refl, t)) _ _ (wind-is (orZero (a .place .terms .nominal .0)) points (a .archive .now) (meant (a .archive .now) (a .place)) refl) (a .powers .now) (w .0 .0) (w .1) _
-    (four-zero _ (w .0 .0 .sums) (a .powers .now) _ points (c .before .before .if1 .left) (c .if2 .taken)) }
+    record {
+      on = λ points t h. based-of _ (g .result) (g .ensures .0 (firstFour (orZero (a .place .terms .nominal .0)) points) (points, refl, t)) _ _ (wind-is (orZero (a .place .terms .nominal .0)) points (a .archive .now) (meant (a .archive .now) (a .place)) refl) (a .powers .now) (w .0 .0) (w .1) _
+          (four-zero _ (w .0 .0 .sums) (a .powers .now) _ points (c .before .before .if1 .left) (c .if2 .taken));
+    }
 
 lowered-requires : tie.Need-lowered-requires
 lowered-requires c κs = let s = c .before .before .before .before .before .before .before .before .before .before .before in
@@ -63,9 +67,11 @@ returns-3 c = let s = c .before .before .before .before .before .before .before 
     let a = s .args in
     let g = c .before .before .before .before .before .before .before .before .before .before .gather in
     let w = c .before .before .before .before .before .before .before .before .four .given in
-    record { on = λ points t h. based-of _ (g .result) (g .ensures .0 (firstFour (orZero (a .place .terms .nominal .0)) points) (points, refl, t)) _ _ (wind-is (orZero (a .place .terms .nominal .0)) points (a .archive .now) (meant (a .archive .now) (a .place)) refl) (a .powers .now) (w .0 .0) (w .1) _
-    (rw h (four-on _ (w .0 .0 .sums) (a .powers .now) _ points (c .before .before .before .before .before .if1 .left) (c .before .before .before .if2 .left) (c .before .before .lowered .result) (c .before .lowered2 .result) (a .place .terms .nominal) (a .curve) t
-    (c .before .before .lowered .ensures) (c .before .lowered2 .ensures) (s .pre .0 .nominal-natural) refl)) }
+    record {
+      on = λ points t h. based-of _ (g .result) (g .ensures .0 (firstFour (orZero (a .place .terms .nominal .0)) points) (points, refl, t)) _ _ (wind-is (orZero (a .place .terms .nominal .0)) points (a .archive .now) (meant (a .archive .now) (a .place)) refl) (a .powers .now) (w .0 .0) (w .1) _
+          (rw h (four-on _ (w .0 .0 .sums) (a .powers .now) _ points (c .before .before .before .before .before .if1 .left) (c .before .before .before .if2 .left) (c .before .before .lowered .result) (c .before .lowered2 .result) (a .place .terms .nominal) (a .curve) t
+          (c .before .before .lowered .ensures) (c .before .lowered2 .ensures) (s .pre .0 .nominal-natural) refl));
+    }
 
 returns-4 : tie.Need-returns-4
 returns-4 c = let s = c .before .before .before .before .before .before .before in

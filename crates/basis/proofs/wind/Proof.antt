@@ -21,12 +21,14 @@ on-curve-requires : tie.Need-on-curve-requires
 on-curve-requires c κs = let s = c .before .before .before .before .before .before .before .before .before .before in
     let a = s .args in
     let p = c .before .before .before .before .before .before .read-points in
-    let q = some-points (pointsOf (a .archive .now) (meant (a .archive .now) (a .place))) (p .result) _ (p .ensures) _ _ (c .before .before .curve .given .1) in
-    (s .pre .0, record {
-      size = q .tabulates .size;
-      low = q .tabulates .low;
-      few = omega (arith, q .count-is, points-few (a .archive .now) (meant (a .archive .now) (a .place)) .of (q .points) (q .are), s .pre .0 .few);
-    })
+    let q = some-points (pointsOf (a .archive .now) (meant (a .archive .now) (a .place))) (p .result) _ (p .ensures) _ _ (c .before .before .curve .given .1) in (
+      s .pre .0,
+      record {
+        size = q .tabulates .size;
+        low = q .tabulates .low;
+        few = omega (arith, q .count-is, points-few (a .archive .now) (meant (a .archive .now) (a .place)) .of (q .points) (q .are), s .pre .0 .few);
+      },
+    )
 
 same-length : tie.Need-same-length
 same-length c = search needs
