@@ -53,7 +53,7 @@ refusal-of-requires : tie.Need-refusal-of-requires Inv-loop μ-loop
 refusal-of-requires c κs = search needs
 
 returns : tie.Need-returns Inv-loop μ-loop
-returns c = 
+returns c =
     let s = c .before .before .before .before in
     let a = s .before .before .before .before .args in
     let l = s .loop in
@@ -66,10 +66,19 @@ returns c =
     )
 
 -- the record that the link at hand leads to
-met-at : (c : lts.After-known-told
-      (link-of-reads.Asked, link-of-reads.Learnt, follow-reads.Asked, follow-reads.Learnt, refusal-of-reads.Asked, refusal-of-reads.Learnt,
-      step-reads.Asked, step-reads.Learnt, passed-reads.Asked, passed-reads.Learnt)
-      reads.Pre reads.Post Inv-loop μ-loop)
+met-at : (c : lts.After-known-told (
+  link-of-reads.Asked,
+  link-of-reads.Learnt,
+  follow-reads.Asked,
+  follow-reads.Learnt,
+  refusal-of-reads.Asked,
+  refusal-of-reads.Learnt,
+  step-reads.Asked,
+  step-reads.Learnt,
+  passed-reads.Asked,
+  passed-reads.Learnt,
+)
+    reads.Pre reads.Post Inv-loop μ-loop)
     → let a = c .before .before .before .before .before .before .before .before .before .args in
     let l = c .before .before .before .before .before .loop in
     Met (a .archive .now) (a .place .used) beforeKind (l .last) (l .link) (c .before .answer .given .0 .0)
@@ -94,7 +103,7 @@ part-step-end : tie.Need-part-step-end Inv-loop μ-loop
 part-step-end c = end-within (met-at c .below) (c .before .before .before .before .before .before .before .before .before .pre .0 .room)
 
 step-requires : tie.Need-step-requires Inv-loop μ-loop
-step-requires c κs = 
+step-requires c κs =
     let s = c .before in
     let m = met-at s in
     let p = s .before .before .before .before .before .before .before .before .before .pre in
@@ -108,7 +117,7 @@ loop-less : tie.Need-loop-less Inv-loop μ-loop
 loop-less c = let m = met-at (c .before .before .before) in link-nearer (m .rises) (m .below)
 
 loop-again : tie.Need-loop-again Inv-loop μ-loop
-loop-again c = 
+loop-again c =
     let s = c .before .before .before in
     let a = s .before .before .before .before .before .before .before .before .before .args in
     let l = s .before .before .before .before .before .loop in
@@ -127,7 +136,7 @@ passed-requires : tie.Need-passed-requires Inv-loop μ-loop
 passed-requires c κs = c .before .loop .inv .room
 
 returns-2 : tie.Need-returns-2 Inv-loop μ-loop
-returns-2 c = 
+returns-2 c =
     let s = c .before .before in
     let a = s .before .before .before .before .args in
     let l = s .loop in
