@@ -41,7 +41,7 @@ enum Added {
 // The before-quarters met, whether every field read so far is in range, and the sums.
 pub struct Walk {
     pub count: u64,
-    pub fine: bool,
+    fine: bool,
     pub sums: Sums,
 }
 

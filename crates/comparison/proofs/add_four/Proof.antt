@@ -1,8 +1,8 @@
 -- `comparison::add_four` meets its contract.
 use mathlib.Core.Path.{ap, _∙_}
 use native.Mathlib.Omega.{arith}
-use Rattle.rules.specs.Numbers.{orZero}
 use borrow.Author.Needs.{needs}
+use Rattle.rules.specs.Numbers.{orZero}
 use Rattle.comparison.proofs.Taken.{grown-none, grown-one, met-test, failed-test, measured}
 use Rattle.comparison.proofs.Taken.{four-full, four-out, four-low, four-weather, four-used}
 use Rattle.comparison.proofs.add_four.Statement.{statement}

@@ -1,5 +1,5 @@
 -- `comparison::gather` meets its contract, by the law of walking a whole chain.
-use mathlib.Core.Path.{_≡_, _∙_, ap}
+use mathlib.Core.Path.{_∙_, ap}
 use mathlib.Core.List.{List}
 use Prim.Native.Nat.{ℕ, _-_}
 use native.Mathlib.Omega.{arith}
@@ -11,7 +11,7 @@ use Rattle.rules.proofs.Chains.{record-part}
 use Rattle.chains.proofs.Laws.{Met, met, no-at, link-nearer}
 use Rattle.chains.proofs.Walking.{walk-starts, walk-turns, walk-ends, walk-refused}
 use Rattle.place.specs.Places.{meant}
-use Rattle.comparison.specs.Walks.{start, stepped, steppedBy, RoomIn}
+use Rattle.comparison.specs.Walks.{stepped, steppedBy}
 use Rattle.comparison.proofs.Walks.{Going, gathered-whole, gathered-broken}
 use Rattle.comparison.proofs.gather.Statement.{statement}
 use Rattle.comparison.proofs.gather.Tie as tie

@@ -2,9 +2,9 @@
 use mathlib.Core.Path.{refl}
 use mathlib.Core.Bool.{false}
 use native.Mathlib.Omega.{arith}
+use borrow.Author.Needs.{needs}
 use borrow.Author.Tests.{not-true, not-false}
 use Rattle.comparison.proofs.Steps.{grown-to, room-kept, room-to, room-used, step-skipped, step-bad, step-unmarked, step-over, step-out, step-to}
-use borrow.Author.Needs.{needs}
 use Rattle.comparison.proofs.step.Statement.{statement}
 use Rattle.comparison.proofs.step.Tie as tie
 
