@@ -1,10 +1,10 @@
 -- What the code takes from a marked before-quarter, by what it has read and tested.
-use mathlib.Core.Path.{_≡_, refl, subst}
-use mathlib.Core.Bool.{Bool, true, false}
+use mathlib.Core.Path.{_≡_, refl, sym, _∙_, subst}
+use mathlib.Core.Bool.{Bool, true, false, not}
 use mathlib.Core.List.{List}
 use Prim.Native.Nat.{ℕ, _+_, _*_, _≤_, _<_}
 use native.Mathlib.Omega.{arith}
-use borrow.Author.Tests.{lt-ltb, le-ltb, eq-eqb, ne-eqb}
+use borrow.Author.Tests.{lt-ltb, le-ltb, eq-eqb, ne-eqb, not-true, not-false}
 use lib.Dec.{T}
 use lib.IntN.{ℤ, pos, subℕ, _*ℤ_}
 use lib.Signed.{leZ, leZ-yes}
@@ -59,6 +59,24 @@ grown-one e h =
 pub grown-only : (s : Sums) {a : ℕ} → a ≤ 2000000000 → Grown s (onlyOne a)
 grown-only s h = record { room = record { few = omega arith; low-a = omega arith; low-b = omega arith }; one = omega arith }
 
+-- ---- fields read
+
+-- a test of the code that says what the rule book's does
+module _ {b t : Bool} (says : b ≡ t) where
+  pub met-test : not b ≡ false → t ≡ true
+  met-test h = sym says ∙ not-false b h
+
+  pub failed-test : not b ≡ true → t ≡ false
+  failed-test h = sym says ∙ not-true b h
+
+-- the measured power, in range, and raised to p
+pub record Measured (r : List ℕ) (p : ℕ) : Type 0 where
+  pub range : isPower (fieldAt r 8) ≡ true
+  pub held : fieldAt r 8 ≡ subℕ p powerBias
+
+pub measured : {r : List ℕ} {m : ℤ} → m ≡ fieldAt r 8 → isPower m ≡ true → (p : ℕ) → m ≡ subℕ p powerBias → Measured r p
+measured is range p e = record { range = rw (← is) range; held = sym is ∙ e }
+
 -- ---- taken
 
 -- the answer for a choice
@@ -74,50 +92,51 @@ module _ (s : Sums) (r : List ℕ) where
   unfolding taken
   one-full z = rw (ne-eqb (s .used) 0 z)
 
-  module _ {m : ℤ} (is : m ≡ fieldAt r 8) where
-    module _ (out : isPower m ≡ false) where
-      pub four-out : (pn : ℕ) (points : List Point) → s .used < 4 → OutOfRange ≡ answer s r (firstFour pn points)
-      unfolding taken beforeOf require _>>_
-      four-out pn points h = rw (lt-ltb (s .used) 4 h, ← is, out)
+  -- the measured power is out of range
+  module _ {m : ℤ} (is : m ≡ fieldAt r 8) (out : isPower m ≡ false) where
+    pub four-out : (pn : ℕ) (points : List Point) → s .used < 4 → OutOfRange ≡ answer s r (firstFour pn points)
+    unfolding taken beforeOf require _>>_
+    four-out pn points h = rw (lt-ltb (s .used) 4 h, ← is, out)
 
-      pub one-out : s .used ≡ 0 → OutOfRange ≡ answer s r firstOne
-      unfolding taken beforeOf require _>>_
-      one-out z = rw (eq-eqb (s .used) 0 z, ← is, out)
+    pub one-out : s .used ≡ 0 → OutOfRange ≡ answer s r firstOne
+    unfolding taken beforeOf require _>>_
+    one-out z = rw (eq-eqb (s .used) 0 z, ← is, out)
 
-      pub every-out : OutOfRange ≡ answer s r everyOne
-      unfolding taken beforeOf require _>>_
-      every-out = rw (← is, out)
+    pub every-out : OutOfRange ≡ answer s r everyOne
+    unfolding taken beforeOf require _>>_
+    every-out = rw (← is, out)
 
-    module _ (range : isPower m ≡ true) where
-      pub every-weather : {word : ℕ} → word ≡ linkAt r 16 → isIrradiance (twos word) ≡ false → OutOfRange ≡ answer s r everyOne
+  module _ {p : ℕ} (m : Measured r p) where
+    as-raised : raised (fieldAt r 8) ≡ p
+    as-raised = sym (raised-is (fieldAt r 8) p (m .held))
+
+    pub one-used : s .used ≡ 0 → To (onlyOne p) ≡ answer s r firstOne
+    unfolding taken beforeOf require _>>_
+    one-used z = rw (eq-eqb (s .used) 0 z, m .range, as-raised)
+
+    pub four-low : (pn : ℕ) (points : List Point) → s .used < 4 → 10 * p < pn + 10000000000 → To s ≡ answer s r (firstFour pn points)
+    unfolding taken beforeOf require _>>_
+    four-low pn points few h = rw (lt-ltb (s .used) 4 few, m .range, no-tenth pn p (fieldAt r 8) (m .held) h)
+
+    module _ {word : ℕ} (w : word ≡ linkAt r 16) where
+      pub every-weather : isIrradiance (twos word) ≡ false → OutOfRange ≡ answer s r everyOne
       unfolding taken beforeOf fieldAt require _>>_
-      every-weather w out = rw (← is, range, ← w, out)
+      every-weather out = rw (m .range, ← w, out)
 
-      module _ (p : ℕ) (held : m ≡ subℕ p powerBias) where
-        pub one-used : s .used ≡ 0 → To (onlyOne p) ≡ answer s r firstOne
-        unfolding taken beforeOf require _>>_
-        one-used z = rw (eq-eqb (s .used) 0 z, ← is, range, ← raised-is m p held)
+      pub every-used : isIrradiance (twos word) ≡ true → {g : ℕ} {t : Sums} → g ≡ orZero (twos word) → t ≡ plus s p g → To t ≡ answer s r everyOne
+      unfolding taken beforeOf fieldAt require _>>_
+      every-used weather e f = rw (f, m .range, as-raised, ← w, weather, ← e)
 
-        pub every-used : {word g : ℕ} {t : Sums} → word ≡ linkAt r 16 → isIrradiance (twos word) ≡ true → g ≡ orZero (twos word) → t ≡ plus s p g
-            → To t ≡ answer s r everyOne
+      module _ (pn : ℕ) (points : List Point) (few : s .used < 4) (enough : pn + 10000000000 ≤ 10 * p) where
+        pub four-weather : isSpeed (twos word) ≡ false → OutOfRange ≡ answer s r (firstFour pn points)
         unfolding taken beforeOf fieldAt require _>>_
-        every-used w weather e f = rw (f, ← is, range, ← w, weather, ← e, ← raised-is m p held)
+        four-weather out = rw (lt-ltb (s .used) 4 few, m .range, tenth pn p (fieldAt r 8) (m .held) enough, ← w, out)
 
-        module _ (pn : ℕ) (points : List Point) (few : s .used < 4) where
-          pub four-low : 10 * p < pn + 10000000000 → To s ≡ answer s r (firstFour pn points)
-          unfolding taken beforeOf require _>>_
-          four-low h = rw (lt-ltb (s .used) 4 few, ← is, range, no-tenth pn p m held h)
-
-          module _ (enough : pn + 10000000000 ≤ 10 * p) {word : ℕ} (w : word ≡ linkAt r 16) where
-            pub four-weather : isSpeed (twos word) ≡ false → OutOfRange ≡ answer s r (firstFour pn points)
-            unfolding taken beforeOf fieldAt require _>>_
-            four-weather out = rw (lt-ltb (s .used) 4 few, ← is, range, tenth pn p m held enough, ← w, out)
-
-            pub four-used : isSpeed (twos word) ≡ true → {speed power : ℕ} {t : Sums} → speed ≡ orZero (twos word) → power ≡ curvePower points speed
-                → t ≡ plus s p power → To t ≡ answer s r (firstFour pn points)
-            unfolding taken beforeOf fieldAt require _>>_
-            four-used weather e f g =
-                rw (lt-ltb (s .used) 4 few, ← is, range, tenth pn p m held enough, ← w, weather, ← e, ← f, g, ← raised-is m p held)
+        pub four-used : isSpeed (twos word) ≡ true → {speed power : ℕ} {t : Sums} → speed ≡ orZero (twos word) → power ≡ curvePower points speed
+            → t ≡ plus s p power → To t ≡ answer s r (firstFour pn points)
+        unfolding taken beforeOf fieldAt require _>>_
+        four-used weather e f g =
+            rw (g, lt-ltb (s .used) 4 few, m .range, tenth pn p (fieldAt r 8) (m .held) enough, as-raised, ← w, weather, ← e, ← f)
 
 -- ---- by the purpose
 

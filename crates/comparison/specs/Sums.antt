@@ -31,7 +31,8 @@ pub data Choice : Type 0 where
 
 -- the choice that a purpose stands for, with the powers of its curve beside it
 abbrev pub Means : Purpose → List ℕ → Choice → Type 0
-Means (Four pn curve) powers choice = (points : List Point) × (choice ≡ firstFour (orZero (pn .0)) points) × Tabulates curve powers points
+Means (Four pn curve) powers choice =
+    (points : List Point) × (choice ≡ firstFour (orZero (pn .0)) points) × Tabulates curve powers points
 Means First powers choice = choice ≡ firstOne
 Means All powers choice = choice ≡ everyOne
 

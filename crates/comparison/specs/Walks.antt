@@ -72,7 +72,8 @@ passed w = do
 -- the chain walked whole (2, 3), then 8, then 9
 abbrev pub gatheredOf : Choice → List ℕ → Place → Outcome Walk
 gatheredOf choice archive place =
-    gatheredFrom (steppedBy choice) start (chain archive (place .used) beforeKind (place .measure .number) (firstBefore (place .measure .bytes)))
+    gatheredFrom (steppedBy choice) start
+    (chain archive (place .used) beforeKind (place .measure .number) (firstBefore (place .measure .bytes)))
     >>= passed
 
 abbrev pub gatheredAnswer : Outcome Walk → Gathered

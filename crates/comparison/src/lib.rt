@@ -41,7 +41,7 @@ enum Added {
 // The before-quarters met, whether every field read so far is in range, and the sums.
 pub struct Walk {
     pub count: u64,
-    pub fine: bool,
+    fine: bool,
     pub sums: Sums,
 }
 
@@ -138,11 +138,12 @@ fn add_all(sums: Sums, r: &[u8]) -> Added
     if !units::in_power_range(measured) {
         return Added::OutOfRange;
     }
+    let power = units::raised(measured);
     let word = weather_of(r);
     if !units::is_irradiance(word) {
         return Added::OutOfRange;
     }
-    Added::To(plus(sums, units::raised(measured), units::irradiance_of(word).0))
+    Added::To(plus(sums, power, units::irradiance_of(word).0))
 }
 
 // A marked one, by the purpose.

@@ -1,9 +1,7 @@
 -- `comparison::add_first` meets its contract.
-use mathlib.Core.Path.{sym, _∙_}
 use native.Mathlib.Omega.{arith}
-use borrow.Author.Tests.{not-true, not-false}
-use Rattle.comparison.proofs.Taken.{grown-none, grown-only, one-full, one-out, one-used}
 use borrow.Author.Needs.{needs}
+use Rattle.comparison.proofs.Taken.{grown-none, grown-only, met-test, failed-test, measured, one-full, one-out, one-used}
 use Rattle.comparison.proofs.add_first.Statement.{statement}
 use Rattle.comparison.proofs.add_first.Tie as tie
 
@@ -21,19 +19,21 @@ in-power-range-requires c κs = search needs
 
 returns-2 : tie.Need-returns-2
 returns-2 c =
-    let a = c .before .before .before .before .before .before .args in
-    let out = sym (c .before .in-power-range .ensures) ∙ not-true _ (c .if2 .taken) in
-    (one-out (a .sums) (a .r .now) (c .before .before .measured-of .ensures) out (omega arith), tt)
+    let s = c .before .before in
+    let a = s .before .before .before .before .args in
+    (one-out (a .sums) (a .r .now) (s .measured-of .ensures) (failed-test (c .before .in-power-range .ensures) (c .if2 .taken)) (omega arith), tt)
 
 raised-requires : tie.Need-raised-requires
-raised-requires c κs = sym (c .before .in-power-range .ensures) ∙ not-false _ (c .if2 .left)
+raised-requires c κs = met-test (c .before .in-power-range .ensures) (c .if2 .left)
 
 returns-3 : tie.Need-returns-3
 returns-3 c =
-    let a = c .before .before .before .before .before .before .before .args in
-    let range = sym (c .before .before .in-power-range .ensures) ∙ not-false _ (c .before .if2 .left) in
+    let i = c .before in
+    let s = i .before .before in
+    let a = s .before .before .before .before .args in
     let power = c .raised in
-    (one-used (a .sums) (a .r .now) (c .before .before .before .measured-of .ensures) range (power .result) (power .ensures .0) (omega arith), grown-only (a .sums) (power .ensures .1))
+    let m = measured (s .measured-of .ensures) (met-test (i .before .in-power-range .ensures) (i .if2 .left)) (power .result) (power .ensures .0) in
+    (one-used (a .sums) (a .r .now) m (omega arith), grown-only (a .sums) (power .ensures .1))
 
 pub add-first-spec : {M : Type 1} → statement M
 add-first-spec =

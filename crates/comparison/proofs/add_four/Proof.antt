@@ -1,10 +1,10 @@
 -- `comparison::add_four` meets its contract.
-use mathlib.Core.Path.{sym, ap, _∙_}
+use mathlib.Core.Path.{ap, _∙_}
 use native.Mathlib.Omega.{arith}
-use borrow.Author.Tests.{not-true, not-false}
-use Rattle.rules.specs.Numbers.{orZero}
-use Rattle.comparison.proofs.Taken.{grown-none, grown-one, four-full, four-out, four-low, four-weather, four-used}
 use borrow.Author.Needs.{needs}
+use Rattle.rules.specs.Numbers.{orZero}
+use Rattle.comparison.proofs.Taken.{grown-none, grown-one, met-test, failed-test, measured}
+use Rattle.comparison.proofs.Taken.{four-full, four-out, four-low, four-weather, four-used}
 use Rattle.comparison.proofs.add_four.Statement.{statement}
 use Rattle.comparison.proofs.add_four.Tie as tie
 
@@ -22,12 +22,13 @@ in-power-range-requires c κs = search needs
 
 returns-2 : tie.Need-returns-2
 returns-2 c =
-    let a = c .before .before .before .before .before .before .before .args in
-    let out = sym (c .before .in-power-range .ensures) ∙ not-true _ (c .if2 .taken) in
-    ((λ points t. four-out (a .sums) (a .r .now) (c .before .before .measured-of .ensures) out (orZero (a .pn .0)) points (omega arith)), tt)
+    let s = c .before .before in
+    let a = s .before .before .before .before .before .args in
+    let out = failed-test (c .before .in-power-range .ensures) (c .if2 .taken) in
+    ((λ points t. four-out (a .sums) (a .r .now) (s .measured-of .ensures) out (orZero (a .pn .0)) points (omega arith)), tt)
 
 raised-requires : tie.Need-raised-requires
-raised-requires c κs = sym (c .before .in-power-range .ensures) ∙ not-false _ (c .if2 .left)
+raised-requires c κs = met-test (c .before .in-power-range .ensures) (c .if2 .left)
 
 unsigned-requires : tie.Need-unsigned-requires
 unsigned-requires c κs = search needs
@@ -40,14 +41,14 @@ mul-if3 c = search needs
 
 returns-3 : tie.Need-returns-3
 returns-3 c =
-    let p = c .before .before .before .before .before .before .before .before .before .before in
-    let a = p .args in
-    let range = sym (c .before .before .before .before .in-power-range .ensures) ∙ not-false _ (c .before .before .before .if2 .left) in
+    let least = c .before .unsigned .ensures in
     let power = c .before .before .raised in
-    let least = c .before .unsigned .ensures in (
-      (λ points t. four-low (a .sums) (a .r .now) (c .before .before .before .before .before .measured-of .ensures) range (power .result) (power .ensures .0) (orZero (a .pn .0)) points (omega arith) (omega arith)),
-      grown-none (p .pre .1 .0),
-    )
+    let i = c .before .before .before in
+    let s = i .before .before in
+    let p = s .before .before .before .before .before in
+    let a = p .args in
+    let m = measured (s .measured-of .ensures) (met-test (i .before .in-power-range .ensures) (i .if2 .left)) (power .result) (power .ensures .0) in
+    ((λ points t. four-low (a .sums) (a .r .now) m (orZero (a .pn .0)) points (omega arith) (omega arith)), grown-none (p .pre .1 .0))
 
 weather-of-requires : tie.Need-weather-of-requires
 weather-of-requires c κs = search needs
@@ -57,18 +58,19 @@ is-speed-requires c κs = search needs
 
 returns-4 : tie.Need-returns-4
 returns-4 c =
-    let a = c .before .before .before .before .before .before .before .before .before .before .before .before .before .args in
-    let range = sym (c .before .before .before .before .before .before .before .in-power-range .ensures) ∙ not-false _ (c .before .before .before .before .before .before .if2 .left) in
-    let power = c .before .before .before .before .before .raised in
-    let least = c .before .before .before .before .unsigned .ensures in
-    let out = sym (c .before .is-speed .ensures) ∙ not-true _ (c .if4 .taken) in (
-      (λ points t. four-weather (a .sums) (a .r .now) (c .before .before .before .before .before .before .before .before .measured-of .ensures) range (power .result) (power .ensures .0) (orZero (a .pn .0)) points (omega arith) (omega arith)
-          (c .before .before .weather-of .ensures .0) out),
-      tt,
-    )
+    let w = c .before .before in
+    let n = w .before .before in
+    let least = n .unsigned .ensures in
+    let power = n .before .raised in
+    let i = n .before .before in
+    let s = i .before .before in
+    let a = s .before .before .before .before .before .args in
+    let m = measured (s .measured-of .ensures) (met-test (i .before .in-power-range .ensures) (i .if2 .left)) (power .result) (power .ensures .0) in
+    let out = failed-test (c .before .is-speed .ensures) (c .if4 .taken) in
+    ((λ points t. four-weather (a .sums) (a .r .now) m (w .weather-of .ensures .0) (orZero (a .pn .0)) points (omega arith) (omega arith) out), tt)
 
 speed-of-requires : tie.Need-speed-of-requires
-speed-of-requires c κs = (search needs, sym (c .before .is-speed .ensures) ∙ not-false _ (c .if4 .left))
+speed-of-requires c κs = (search needs, met-test (c .before .is-speed .ensures) (c .if4 .left))
 
 power-at-requires : tie.Need-power-at-requires
 power-at-requires c κs = search needs
@@ -81,17 +83,23 @@ plus-requires c κs = search needs
 
 returns-5 : tie.Need-returns-5
 returns-5 c =
-    let p = c .before .before .before .before .before .before .before .before .before .before .before .before .before .before .before .before .before in
-    let a = p .args in
-    let range = sym (c .before .before .before .before .before .before .before .before .before .before .before .in-power-range .ensures) ∙ not-false _ (c .before .before .before .before .before .before .before .before .before .before .if2 .left) in
-    let power = c .before .before .before .before .before .before .before .before .before .raised in
-    let few = c .before .before .before .before .before .before .before .before .before .before .before .before .before .if1 .left in
-    let least = c .before .before .before .before .before .before .before .before .unsigned .ensures in
-    let weather = sym (c .before .before .before .before .before .is-speed .ensures) ∙ not-false _ (c .before .before .before .before .if4 .left) in
+    let on-curve = c .before .unsigned2 in
     let read = c .before .before .power-at .ensures in
-    let on-curve = c .before .unsigned2 in (
-      (λ points t. four-used (a .sums) (a .r .now) (c .before .before .before .before .before .before .before .before .before .before .before .before .measured-of .ensures) range (power .result) (power .ensures .0) (orZero (a .pn .0)) points (omega arith) (omega arith)
-          (c .before .before .before .before .before .before .weather-of .ensures .0) weather (c .before .before .before .speed-of .ensures .0) (on-curve .ensures ∙ ap orZero (read .is points t)) (c .plus .ensures)),
+    let v = c .before .before .before in
+    let j = v .before in
+    let w = j .before .before in
+    let n = w .before .before in
+    let least = n .unsigned .ensures in
+    let power = n .before .raised in
+    let i = n .before .before in
+    let s = i .before .before in
+    let few = s .before .if1 .left in
+    let p = s .before .before .before .before .before in
+    let a = p .args in
+    let m = measured (s .measured-of .ensures) (met-test (i .before .in-power-range .ensures) (i .if2 .left)) (power .result) (power .ensures .0) in
+    let speed = met-test (j .before .is-speed .ensures) (j .if4 .left) in (
+      (λ points t. four-used (a .sums) (a .r .now) m (w .weather-of .ensures .0) (orZero (a .pn .0)) points (omega arith) (omega arith) speed
+          (v .speed-of .ensures .0) (on-curve .ensures ∙ ap orZero (read .is points t)) (c .plus .ensures)),
       grown-one (c .plus .ensures)
           (record { room = p .pre .1 .0; few = omega arith; low-a = power .ensures .1; low-b = omega (arith, on-curve .ensures, read .low) }),
     )

@@ -1,6 +1,6 @@
 -- `comparison::add_marked` meets its contract.
-use Rattle.comparison.proofs.Taken.{scaled, adds-four, adds-first, adds-all}
 use borrow.Author.Needs.{needs}
+use Rattle.comparison.proofs.Taken.{scaled, adds-four, adds-first, adds-all}
 use Rattle.comparison.proofs.add_marked.Statement.{statement}
 use Rattle.comparison.proofs.add_marked.Tie as tie
 

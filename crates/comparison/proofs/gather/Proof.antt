@@ -1,5 +1,5 @@
 -- `comparison::gather` meets its contract, by the law of walking a whole chain.
-use mathlib.Core.Path.{_≡_, _∙_, ap}
+use mathlib.Core.Path.{_∙_, ap}
 use mathlib.Core.List.{List}
 use Prim.Native.Nat.{ℕ, _-_}
 use native.Mathlib.Omega.{arith}
@@ -8,13 +8,20 @@ use lib.Dec.{lit≤}
 use Rattle.rules.specs.Archive.{beforeKind}
 use Rattle.rules.proofs.Parts.{start-fits, end-fits, end-within, start-end, part-size}
 use Rattle.rules.proofs.Chains.{record-part}
-use Rattle.chains.proofs.Laws.{met, no-at, link-nearer}
+use Rattle.chains.proofs.Laws.{Met, met, no-at, link-nearer}
 use Rattle.chains.proofs.Walking.{walk-starts, walk-turns, walk-ends, walk-refused}
 use Rattle.place.specs.Places.{meant}
-use Rattle.comparison.specs.Walks.{start, stepped, steppedBy, RoomIn}
+use Rattle.comparison.specs.Walks.{stepped, steppedBy}
 use Rattle.comparison.proofs.Walks.{Going, gathered-whole, gathered-broken}
 use Rattle.comparison.proofs.gather.Statement.{statement}
 use Rattle.comparison.proofs.gather.Tie as tie
+use Rattle.comparison.proofs.gather.Reads as reads
+use Rattle.comparison.proofs.gather.Lts as lts
+use Rattle.chains.proofs.follow.Reads as follow-reads
+use Rattle.record.proofs.link_of.Reads as link-of-reads
+use Rattle.chains.proofs.refusal_of.Reads as refusal-of-reads
+use Rattle.comparison.proofs.passed.Reads as passed-reads
+use Rattle.comparison.proofs.step.Reads as step-reads
 
 abbrev Inv-loop : tie.InvT-loop
 Inv-loop archive purpose powers used last₀ link₀ walk₀ last link walk = Going purpose powers archive used last₀ link₀ last link walk
@@ -47,43 +54,44 @@ refusal-of-requires c κs = search needs
 
 returns : tie.Need-returns Inv-loop μ-loop
 returns c =
-    let a = c .before .before .before .before .before .before .before .before .args in
-    let first = c .before .before .before .before .before .link-of in
-    let l = c .before .before .before .before .loop in
+    let s = c .before .before .before .before in
+    let a = s .before .before .before .before .args in
+    let l = s .loop in
     let f = c .before .before .follow in (
-      (λ choice t. gathered-broken choice (a .archive .now) (meant (a .archive .now) (a .place)) (first .ensures .0)
-          (walk-refused (steppedBy choice) (a .archive .now) (a .place .used) beforeKind (l .inv .walking choice t) (f .ensures) (no-at (f .result) (c .before .match .keys2))
-          (c .before .before .before .loop-test .taken))
-          (c .refusal-of .ensures)),
+      (λ choice t. gathered-broken choice (a .archive .now) (meant (a .archive .now) (a .place)) (omega (arith, s .before .link-of .ensures .0))
+          (walk-refused (steppedBy choice) (a .archive .now) (a .place .used) beforeKind (l .inv .walking choice t) (f .ensures)
+          (no-at (f .result) (c .before .match .keys2)) (λ z. omega arith))
+          (omega (arith, c .refusal-of .ensures))),
       tt,
     )
 
-mul-step : tie.Need-mul-step Inv-loop μ-loop
-mul-step c =
-    let p = c .before .before .before .before .before .before .before .before .before in
-    let a = p .args in
+-- the record that the link at hand leads to
+met-at : (c : lts.After-known-told (
+  link-of-reads.Asked,
+  link-of-reads.Learnt,
+  follow-reads.Asked,
+  follow-reads.Learnt,
+  refusal-of-reads.Asked,
+  refusal-of-reads.Learnt,
+  step-reads.Asked,
+  step-reads.Learnt,
+  passed-reads.Asked,
+  passed-reads.Learnt,
+)
+    reads.Pre reads.Post Inv-loop μ-loop)
+    → let a = c .before .before .before .before .before .before .before .before .before .args in
     let l = c .before .before .before .before .before .loop in
-    let f = c .before .before .before .follow in
-    let m = met (a .archive .now) (a .place .used) beforeKind (l .last) (l .link) (f .result) (f .ensures) _ (c .before .answer .given .1) in
-    start-fits (m .below) (p .pre .0 .few)
+    Met (a .archive .now) (a .place .used) beforeKind (l .last) (l .link) (c .before .answer .given .0 .0)
+met-at c = let f = c .before .before .before .follow in met _ _ _ _ _ (f .result) (f .ensures) _ (c .before .answer .given .1)
+
+mul-step : tie.Need-mul-step Inv-loop μ-loop
+mul-step c = start-fits (met-at c .below) (c .before .before .before .before .before .before .before .before .before .pre .0 .few)
 
 mul-step-2 : tie.Need-mul-step-2 Inv-loop μ-loop
-mul-step-2 c =
-    let p = c .before .before .before .before .before .before .before .before .before in
-    let a = p .args in
-    let l = c .before .before .before .before .before .loop in
-    let f = c .before .before .before .follow in
-    let m = met (a .archive .now) (a .place .used) beforeKind (l .last) (l .link) (f .result) (f .ensures) _ (c .before .answer .given .1) in
-    start-fits (m .below) (p .pre .0 .few)
+mul-step-2 c = start-fits (met-at c .below) (c .before .before .before .before .before .before .before .before .before .pre .0 .few)
 
 add-step : tie.Need-add-step Inv-loop μ-loop
-add-step c =
-    let p = c .before .before .before .before .before .before .before .before .before in
-    let a = p .args in
-    let l = c .before .before .before .before .before .loop in
-    let f = c .before .before .before .follow in
-    let m = met (a .archive .now) (a .place .used) beforeKind (l .last) (l .link) (f .result) (f .ensures) _ (c .before .answer .given .1) in
-    end-fits (m .below) (p .pre .0 .few)
+add-step c = end-fits (met-at c .below) (c .before .before .before .before .before .before .before .before .before .pre .0 .few)
 
 sub-step : tie.Need-sub-step Inv-loop μ-loop
 sub-step c = start-end _
@@ -92,56 +100,36 @@ part-step-start : tie.Need-part-step-start Inv-loop μ-loop
 part-step-start c = start-end _
 
 part-step-end : tie.Need-part-step-end Inv-loop μ-loop
-part-step-end c =
-    let p = c .before .before .before .before .before .before .before .before .before in
-    let a = p .args in
-    let l = c .before .before .before .before .before .loop in
-    let f = c .before .before .before .follow in
-    let m = met (a .archive .now) (a .place .used) beforeKind (l .last) (l .link) (f .result) (f .ensures) _ (c .before .answer .given .1) in
-    end-within (m .below) (p .pre .0 .room)
+part-step-end c = end-within (met-at c .below) (c .before .before .before .before .before .before .before .before .before .pre .0 .room)
 
 step-requires : tie.Need-step-requires Inv-loop μ-loop
 step-requires c κs =
-    let p = c .before .before .before .before .before .before .before .before .before .before in
-    let a = p .args in
-    let l = c .before .before .before .before .before .before .loop in
-    let f = c .before .before .before .before .follow in
-    let m = met (a .archive .now) (a .place .used) beforeKind (l .last) (l .link) (f .result) (f .ensures) _ (c .before .before .answer .given .1) in
-    (p .pre .1, (l .inv .room, (omega arith, part-size _ (c .step-arg .given .2))))
+    let s = c .before in
+    let m = met-at s in
+    let p = s .before .before .before .before .before .before .before .before .before .pre in
+    let i = s .before .before .before .before .before .loop .inv in
+    (p .1, (i .room, (omega arith, part-size _ (c .step-arg .given .2))))
 
 link-of-requires-2 : tie.Need-link-of-requires-2 Inv-loop μ-loop
-link-of-requires-2 c κs =
-    let p = c .before .before .before .before .before .before .before .before .before .before .before in
-    let a = p .args in
-    let l = c .before .before .before .before .before .before .before .loop in
-    let f = c .before .before .before .before .before .follow in
-    let m = met (a .archive .now) (a .place .used) beforeKind (l .last) (l .link) (f .result) (f .ensures) _ (c .before .before .before .answer .given .1) in
-    (end-within (m .below) (p .pre .0 .room), lit≤ tt)
+link-of-requires-2 c κs = let s = c .before .before in (end-within (met-at s .below) (s .before .before .before .before .before .before .before .before .before .pre .0 .room), lit≤ tt)
 
 loop-less : tie.Need-loop-less Inv-loop μ-loop
-loop-less c =
-    let p = c .before .before .before .before .before .before .before .before .before .before .before .before in
-    let a = p .args in
-    let l = c .before .before .before .before .before .before .before .before .loop in
-    let f = c .before .before .before .before .before .before .follow in
-    let m = met (a .archive .now) (a .place .used) beforeKind (l .last) (l .link) (f .result) (f .ensures) _ (c .before .before .before .before .answer .given .1) in
-    link-nearer (m .rises) (m .below)
+loop-less c = let m = met-at (c .before .before .before) in link-nearer (m .rises) (m .below)
 
 loop-again : tie.Need-loop-again Inv-loop μ-loop
 loop-again c =
-    let p = c .before .before .before .before .before .before .before .before .before .before .before .before in
-    let a = p .args in
-    let l = c .before .before .before .before .before .before .before .before .loop in
-    let f = c .before .before .before .before .before .before .follow in
-    let m = met (a .archive .now) (a .place .used) beforeKind (l .last) (l .link) (f .result) (f .ensures) _ (c .before .before .before .before .answer .given .1) in
-    let s = c .before .step .ensures in
+    let s = c .before .before .before in
+    let a = s .before .before .before .before .before .before .before .before .before .args in
+    let l = s .before .before .before .before .before .loop in
+    let m = met-at s in
+    let f = c .before .step .ensures in
     record {
       walking = λ choice t.
-          walk-turns (steppedBy choice) (a .archive .now) (a .place .used) beforeKind (l .inv .walking choice t) m (c .link-of2 .ensures .0)
-          (s .is choice t ∙ ap (λ (r : List ℕ). stepped choice (l .walk) r) (record-part (a .archive .now) _));
+          walk-turns (steppedBy choice) (a .archive .now) (a .place .used) beforeKind (l .inv .walking choice t) m (omega (arith, c .link-of2 .ensures .0))
+          (f .is choice t ∙ ap (λ (r : List ℕ). stepped choice (l .walk) r) (record-part (a .archive .now) _));
       below = m .below;
-      few = omega (arith, s .count, m .rises, l .inv .few);
-      room = s .room;
+      few = omega (arith, f .count, m .rises, l .inv .few);
+      room = f .room;
     }
 
 passed-requires : tie.Need-passed-requires Inv-loop μ-loop
@@ -149,12 +137,12 @@ passed-requires c κs = c .before .loop .inv .room
 
 returns-2 : tie.Need-returns-2 Inv-loop μ-loop
 returns-2 c =
-    let a = c .before .before .before .before .before .before .args in
-    let first = c .before .before .before .link-of in
-    let l = c .before .before .loop in
+    let s = c .before .before in
+    let a = s .before .before .before .before .args in
+    let l = s .loop in
     let f = c .passed .ensures in (
-      (λ choice t. gathered-whole choice (a .archive .now) (meant (a .archive .now) (a .place)) (first .ensures .0)
-          (walk-ends (steppedBy choice) (a .archive .now) (a .place .used) beforeKind (l .inv .walking choice t) (c .before .loop-test .left)) (f .0)),
+      (λ choice t. gathered-whole choice (a .archive .now) (meant (a .archive .now) (a .place)) (omega (arith, s .before .link-of .ensures .0))
+          (walk-ends (steppedBy choice) (a .archive .now) (a .place .used) beforeKind (l .inv .walking choice t) (omega arith)) (f .0)),
       f .1,
     )
 

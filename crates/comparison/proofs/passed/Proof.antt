@@ -6,7 +6,7 @@ use Rattle.comparison.proofs.passed.Statement.{statement}
 use Rattle.comparison.proofs.passed.Tie as tie
 
 returns : tie.Need-returns
-returns c = (passed-over (c .before .before .args .walk) (c .if1 .taken), tt)
+returns c = (passed-over (c .before .before .args .walk) (omega arith), tt)
 
 returns-2 : tie.Need-returns-2
 returns-2 c =

@@ -2,9 +2,9 @@
 use mathlib.Core.Path.{refl}
 use mathlib.Core.Bool.{false}
 use native.Mathlib.Omega.{arith}
+use borrow.Author.Needs.{needs}
 use borrow.Author.Tests.{not-true, not-false}
 use Rattle.comparison.proofs.Steps.{grown-to, room-kept, room-to, room-used, step-skipped, step-bad, step-unmarked, step-over, step-out, step-to}
-use borrow.Author.Needs.{needs}
 use Rattle.comparison.proofs.step.Statement.{statement}
 use Rattle.comparison.proofs.step.Tie as tie
 
@@ -26,33 +26,33 @@ shared-slice-read-mark c = search needs
 
 returns-2 : tie.Need-returns-2
 returns-2 c =
-    let p = c .before .before .before .before .before .before .before in
+    let i = c .before .before in
+    let p = i .before .before .before .before .before in
     let a = p .args in
-    let fine = not-false _ (c .before .before .if1 .left) in
     record {
-      is = λ choice t. step-bad choice (a .walk) (a .r .now) fine (omega arith);
+      is = λ choice t. step-bad choice (a .walk) (a .r .now) (not-false _ (i .if1 .left)) (omega arith);
       room = room-kept (a .walk) (p .pre .1 .0) false;
       count = refl;
     }
 
 returns-3 : tie.Need-returns-3
 returns-3 c =
-    let p = c .before .before .before .before .before .before .before .before in
+    let i = c .before .before .before in
+    let p = i .before .before .before .before .before in
     let a = p .args in
-    let fine = not-false _ (c .before .before .before .if1 .left) in
     record {
-      is = λ choice t. step-unmarked choice (a .walk) (a .r .now) fine (omega arith) (λ one. omega arith);
+      is = λ choice t. step-unmarked choice (a .walk) (a .r .now) (not-false _ (i .if1 .left)) (omega arith) (λ one. omega arith);
       room = room-kept (a .walk) (p .pre .1 .0) (a .walk .fine);
       count = refl;
     }
 
 returns-4 : tie.Need-returns-4
 returns-4 c =
-    let p = c .before .before .before .before .before .before .before .before .before .before in
+    let i = c .before .before .before .before .before in
+    let p = i .before .before .before .before .before in
     let a = p .args in
-    let fine = not-false _ (c .before .before .before .before .before .if1 .left) in
     record {
-      is = λ choice t. step-over choice (a .walk) (a .r .now) fine (omega arith) (omega arith);
+      is = λ choice t. step-over choice (a .walk) (a .r .now) (not-false _ (i .if1 .left)) (omega arith) (omega arith);
       room = room-kept (a .walk) (p .pre .1 .0) (a .walk .fine);
       count = refl;
     }
@@ -71,25 +71,27 @@ enum-told c = search needs
 
 returns-5 : tie.Need-returns-5
 returns-5 c =
-    let p = c .before .before .before .before .before .before .before .before .before .before .before .before .before in
+    let s = c .before .before in
+    let f = s .add-marked in
+    let i = s .before .before .before .before .before .before in
+    let p = i .before .before .before .before .before in
     let a = p .args in
-    let fine = not-false _ (c .before .before .before .before .before .before .before .before .if1 .left) in
-    let f = c .before .before .add-marked in
     record {
-      is = λ choice t. step-out choice (a .walk) (a .r .now) fine (omega arith) (omega arith) (f .result) (f .ensures .0 choice t) (c .enum-told .given .1);
+      is = λ choice t. step-out choice (a .walk) (a .r .now) (not-false _ (i .if1 .left)) (omega arith) (omega arith) (f .result) (f .ensures .0 choice t) (c .enum-told .given .1);
       room = room-kept (a .walk) (p .pre .1 .0) false;
       count = refl;
     }
 
 returns-6 : tie.Need-returns-6
 returns-6 c =
-    let p = c .before .before .before .before .before .before .before .before .before .before .before .before .before .before in
+    let s = c .before .before .before in
+    let f = s .add-marked in
+    let i = s .before .before .before .before .before .before in
+    let p = i .before .before .before .before .before in
     let a = p .args in
-    let fine = not-false _ (c .before .before .before .before .before .before .before .before .before .if1 .left) in
-    let f = c .before .before .before .add-marked in
     let e = c .before .sums .given .1 in
     record {
-      is = λ choice t. step-to choice (a .walk) (a .r .now) fine (omega arith) (omega arith) (f .result) (f .ensures .0 choice t) _ e;
+      is = λ choice t. step-to choice (a .walk) (a .r .now) (not-false _ (i .if1 .left)) (omega arith) (omega arith) (f .result) (f .ensures .0 choice t) _ e;
       room = room-to (a .walk) (p .pre .1 .0) _ (grown-to (a .walk .sums) _ (f .result) e (f .ensures .1));
       count = refl;
     }
