@@ -1,8 +1,6 @@
 -- `terms::admit` meets its contract. Assumes nothing.
-use mathlib.Core.Path.{sym, _∙_}
 use borrow.Author.Needs.{needs}
-use borrow.Author.Tests.{not-true, not-false}
-use Rattle.terms.proofs.Laws.{admit-plant, admit-measure, admit-both}
+use Rattle.terms.proofs.Laws.{admit-plant, admit-measure, admit-both, refused-by, allowed-by}
 use Rattle.terms.proofs.admit.Statement.{statement}
 use Rattle.terms.proofs.admit.Tie as tie
 
@@ -10,19 +8,13 @@ plant-allowed-requires : tie.Need-plant-allowed-requires
 plant-allowed-requires c κs = search needs
 
 returns : tie.Need-returns
-returns c =
-    let a = c .before .before .before .before .args in
-    admit-plant (a .plant .now) (a .measure .now) (sym (c .before .plant-allowed .ensures) ∙ not-true _ (c .if1 .taken))
+returns c = search (admit-plant, refused-by)
 
 measure-allowed-requires : tie.Need-measure-allowed-requires
 measure-allowed-requires c κs = search needs
 
 returns-2 : tie.Need-returns-2
-returns-2 c =
-    let plant = c .before .before in
-    let a = plant .before .before .before .before .args in
-    admit-measure (a .plant .now) (a .measure .now) (sym (plant .before .plant-allowed .ensures) ∙ not-false _ (plant .if1 .left))
-    (sym (c .before .measure-allowed .ensures) ∙ not-true _ (c .if2 .taken))
+returns-2 c = search (admit-measure, allowed-by, refused-by)
 
 technology-of-requires : tie.Need-technology-of-requires
 technology-of-requires c κs = search needs
@@ -41,14 +33,11 @@ execution-of-requires c κs = search needs
 
 returns-3 : tie.Need-returns-3
 returns-3 c =
-    let variant = c .before .before .before in
-    let measure = variant .before .before in
-    let plant = measure .before .before in
-    let a = plant .before .before .before .before .args in
-    admit-both (a .plant .now) (a .measure .now) (sym (plant .before .plant-allowed .ensures) ∙ not-false _ (plant .if1 .left))
-    (sym (measure .before .measure-allowed .ensures) ∙ not-false _ (measure .if2 .left))
-    (variant .before .technology-of .ensures) (variant .variant-of .ensures) (c .before .before .watt-at .ensures) (c .before .direction-of .ensures)
-    (c .execution-of .ensures)
+    let nominal = c .before .before in
+    let variant = nominal .before in
+    let a = variant .before .before .before .before .before .before .before .before .args in
+    admit-both (a .plant .now) (a .measure .now) (search allowed-by) (search allowed-by) (variant .before .technology-of .ensures) (variant .variant-of .ensures)
+    (nominal .watt-at .ensures) (c .before .direction-of .ensures) (c .execution-of .ensures)
 
 pub admit-spec : {M : Type 1} → statement M
 admit-spec =
