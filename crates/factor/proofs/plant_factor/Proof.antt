@@ -40,11 +40,11 @@ loop-less c = search needs
 loop-again : tie.Need-loop-again Inv-loop μ-loop
 unfolding factorRows
 loop-again c =
-    let l = c .before .before .before .before in
-    let s = l .before in
-    let test = c .before .before .before .loop-test .taken in (
+    let t = c .before .before .before in
+    let l = t .before in
+    let s = l .before in (
       omega arith,
-      row-taken (s .is-summer .result) (s .before .args .quarter) (l .loop .i) test (l .loop .inv .0) (sym (c .before .is-for .ensures) ∙ c .if1 .taken),
+      row-taken (s .is-summer .result) (s .before .args .quarter) (l .loop .i) (t .loop-test .taken) (l .loop .inv .0) (sym (c .before .is-for .ensures) ∙ c .if1 .taken),
     )
 
 loop-less-2 : tie.Need-loop-less-2 Inv-loop μ-loop
@@ -53,12 +53,12 @@ loop-less-2 c = search needs
 loop-again-2 : tie.Need-loop-again-2 Inv-loop μ-loop
 unfolding factorRows
 loop-again-2 c =
-    let l = c .before .before .before .before in
-    let s = l .before in
-    let test = c .before .before .before .loop-test .taken in (
+    let t = c .before .before .before in
+    let l = t .before in
+    let s = l .before in (
       omega arith,
       l .loop .inv .1
-          ∙ row-left (s .is-summer .result) (s .before .args .quarter) (l .loop .i) test (l .loop .inv .0) (sym (c .before .is-for .ensures) ∙ c .if1 .left),
+          ∙ row-left (s .is-summer .result) (s .before .args .quarter) (l .loop .i) (t .loop-test .taken) (l .loop .inv .0) (sym (c .before .is-for .ensures) ∙ c .if1 .left),
     )
 
 returns : tie.Need-returns Inv-loop μ-loop
@@ -72,4 +72,19 @@ returns c =
     ∙ ap (λ t. firstFor t quarter factorRows) (s .is-summer .ensures)
 
 pub plant-factor-spec : {M : Type 1} → statement M
-plant-factor-spec = tie.close (tie.spec Inv-loop μ-loop is-summer-requires loop-holds sub-i mul-r array-copy-out-r is-for-requires loop-less loop-again loop-less-2 loop-again-2 returns)
+plant-factor-spec =
+    tie.close
+    (tie.spec
+    Inv-loop
+    μ-loop
+    is-summer-requires
+    loop-holds
+    sub-i
+    mul-r
+    array-copy-out-r
+    is-for-requires
+    loop-less
+    loop-again
+    loop-less-2
+    loop-again-2
+    returns)

@@ -27,7 +27,8 @@ cast-powers c = search needs
 mul-powers : tie.Need-mul-powers
 mul-powers c = search needs
 
-same-size : (c : lts.Joined1 (fill-reads.Asked, fill-reads.Learnt) reads.Pre reads.Post) → length (c .if1 .powers) ≡ length (c .before .before .before .args .powers .now)
+same-size : (c : lts.Joined1 (fill-reads.Asked, fill-reads.Learnt) reads.Pre reads.Post)
+    → length (c .if1 .powers) ≡ length (c .before .before .before .args .powers .now)
 same-size c = ⊎-elim (λ w. ap length (w .1)) (λ w. ap length (w .7) ∙ w .4 .kept .0) (c .if1 .came)
 
 slice-write-powers : tie.Need-slice-write-powers

@@ -36,8 +36,8 @@ returns-3 c =
     let nominal = c .before .before in
     let variant = nominal .before in
     let a = variant .before .before .before .before .before .before .before .before .args in
-    admit-both (a .plant .now) (a .measure .now) (search allowed-by) (search allowed-by) (variant .before .technology-of .ensures) (variant .variant-of .ensures)
-    (nominal .watt-at .ensures) (c .before .direction-of .ensures) (c .execution-of .ensures)
+    admit-both (a .plant .now) (a .measure .now) (search allowed-by) (search allowed-by)
+    (variant .before .technology-of .ensures) (variant .variant-of .ensures) (nominal .watt-at .ensures) (c .before .direction-of .ensures) (c .execution-of .ensures)
 
 pub admit-spec : {M : Type 1} → statement M
 admit-spec =
