@@ -104,7 +104,9 @@ module _ (a b : Point) (powers : List ℕ) (p : Piece a b) (size : length powers
   next-point = getD-set-same lineTo (b .speed) (b .power) 0 (omega (arith, line-size, p .right .low-speed))
 
   pub next-low : Low powers → Low (set lineTo (b .speed) (b .power))
-  next-low low = set-low lineTo (b .speed) (b .power) (omega (arith, line-size, p .right .low-speed)) (p .right .low-power) (λ v. line v (either-side v (a .speed)) (either-side v (b .speed)))
+  next-low low =
+      set-low lineTo (b .speed) (b .power) (omega (arith, line-size, p .right .low-speed)) (p .right .low-power)
+      (λ v. line v (either-side v (a .speed)) (either-side v (b .speed)))
     where
       line : (v : ℕ) → (v < a .speed) ⊎ (a .speed ≤ v) → (v < b .speed) ⊎ (b .speed ≤ v) → getD lineTo v 0 ≤ 1000000000
       line v (inl h) k = omega (arith, filled-outside a b (b .speed - a .speed) (a .speed) v powers (inl h), low v)

@@ -1,8 +1,9 @@
 -- What admits a measure, by the tests of the code, over plain variables.
 use mathlib.Core.Path.{_≡_, sym, _∙_}
-use mathlib.Core.Bool.{true, false}
+use mathlib.Core.Bool.{Bool, true, false, not}
 use mathlib.Core.List.{List}
 use Prim.Native.Nat.{ℕ}
+use borrow.Author.Tests.{not-true, not-false}
 use lib.IntN.{ℤ}
 use Rattle.rules.specs.Outcome.{_>>_, require}
 use Rattle.rules.specs.Refusals.{badPlant, badMeasure}
@@ -16,6 +17,13 @@ use Rattle.rules.specs.Settle.{admitted}
 use Rattle.rules.proofs.Bounds.{nominal-within}
 use Rattle.terms.specs.declared.Admitted.the-variants.{With, Refused}
 use Rattle.terms.specs.Meanings.{admittedAnswer}
+
+-- a test, by the answer t of the code
+pub allowed-by : {t u : Bool} → t ≡ u → not t ≡ false → u ≡ true
+allowed-by {t} e f = sym e ∙ not-false t f
+
+pub refused-by : {t u : Bool} → t ≡ u → not t ≡ true → u ≡ false
+refused-by {t} e f = sym e ∙ not-true t f
 
 module _ (plant measure : List ℕ) where
   pub admit-plant : plantAllowed plant ≡ false → Refused badPlant ≡ admittedAnswer (admitted plant measure)

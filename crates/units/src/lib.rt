@@ -3,28 +3,19 @@
 ghost use mathlib.Core.Path.{_≡_};
 ghost use mathlib.Core.Bool.{true};
 ghost use Prim.Native.Nat.{_≤_, _<_, _^_};
+ghost use lib.Dec.{ltb};
 ghost use lib.IntN.{pos, subℕ};
 ghost use lib.Signed.{leZ};
 ghost use Rattle.rules.specs.Numbers.{orZero, within, smaller, larger};
 ghost use Rattle.rules.specs.Archive.{twos};
 ghost use Rattle.rules.specs.Terms.{isPower, isNominalPower, isCurvePower, isSpeed, isIrradiance};
 ghost use Rattle.rules.specs.Booking.{signed};
-ghost use lib.Dec.{ltb};
 use rules::Direction;
 
-// Power in W.
-pub struct Watt(pub i64);
-
-// Energy in Wh.
-pub struct WattHour(pub i64);
-
-// Wind speed in tenths of m/s.
-pub struct Speed(pub u64);
-
-// Irradiance in W/m².
-pub struct Irradiance(pub u64);
-
 // ---- power
+
+// In W.
+pub struct Watt(pub i64);
 
 // A field in two's complement: (word + 2^31) mod 2^32 is its number raised by 2^31.
 pub fn watt_of(word: u64) -> Watt
@@ -102,20 +93,10 @@ pub fn lowered(n: u64, by: u64) -> Watt
     Watt(n as i64 - by as i64)
 }
 
-// ---- energy
+// ---- speed
 
-// An amount with its sign, minus for the positive direction (01, 'Amounts').
-pub fn booked(direction: Direction, amount: u64) -> WattHour
-    requires { ⌜ amount < 2 ^ 63 ⌝ }
-    ensures { λ r. ⌜ r .0 ≡ signed direction amount ⌝ }
-{
-    match direction {
-        Direction::Positive => WattHour(-(amount as i64)),
-        Direction::Negative => WattHour(amount as i64),
-    }
-}
-
-// Wind speed and irradiance, tested and read from a field's word (document 01, 'The archive').
+// Wind speed in tenths of m/s.
+pub struct Speed(pub u64);
 
 pub fn is_speed(word: u64) -> bool
     requires { ⌜ word < 2 ^ 32 ⌝ }
@@ -138,6 +119,11 @@ pub fn is_below(a: Speed, b: Speed) -> bool
     a.0 < b.0
 }
 
+// ---- irradiance
+
+// In W/m².
+pub struct Irradiance(pub u64);
+
 pub fn is_irradiance(word: u64) -> bool
     requires { ⌜ word < 2 ^ 32 ⌝ }
     ensures { λ r. ⌜ r ≡ isIrradiance (twos word) ⌝ }
@@ -151,4 +137,20 @@ pub fn irradiance_of(word: u64) -> Irradiance
     ensures { λ r. ⌜ (r .0 ≡ orZero (twos word)) × (r .0 ≤ 2000) ⌝ }
 {
     Irradiance(word)
+}
+
+// ---- energy
+
+// In Wh.
+pub struct WattHour(pub i64);
+
+// An amount with its sign, minus for the positive direction (01, 'Amounts').
+pub fn booked(direction: Direction, amount: u64) -> WattHour
+    requires { ⌜ amount < 2 ^ 63 ⌝ }
+    ensures { λ r. ⌜ r .0 ≡ signed direction amount ⌝ }
+{
+    match direction {
+        Direction::Positive => WattHour(-(amount as i64)),
+        Direction::Negative => WattHour(amount as i64),
+    }
 }

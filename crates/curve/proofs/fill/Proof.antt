@@ -71,14 +71,14 @@ add-power c =
 
 -- a speed on, after the carry
 turned : (c : lts.After-row-known reads.Pre reads.Post Inv-loop μ-loop) →
-    let s = c .before .before .before .before in
+    let w = c .before .before .before in
     let j = c .before .if1 in
-    Turned (left s) (right s) (c .before .before .before .loop .speed) (j .power) (j .rest)
+    Turned (left (w .before)) (right (w .before)) (w .loop .speed) (j .power) (j .rest)
 turned c =
-    let s = c .before .before .before .before in
-    let l = c .before .before .before .loop in
+    let t = c .before .before in
+    let l = t .before .loop in
     let j = c .before .if1 in
-    line-turn (s .pre .1) (l .speed) (l .power) (l .rest) (l .inv .from) (c .before .before .loop-test .taken) (l .inv .line) (j .power) (j .rest)
+    line-turn (t .before .before .pre .1) (l .speed) (l .power) (l .rest) (l .inv .from) (t .loop-test .taken) (l .inv .line) (j .power) (j .rest)
     (⊎-elim (λ w. inl (w .0 .taken, w .1, w .2)) (λ w. inr (w .0 .left, w .1, w .2)) (j .came))
 
 add-power-2 : tie.Need-add-power-2 Inv-loop μ-loop
@@ -95,9 +95,10 @@ loop-less c = on-nearer (c .before .before .loop-test .taken)
 
 loop-again : tie.Need-loop-again Inv-loop μ-loop
 loop-again c =
-    let s = c .before .before .before .before in
-    let l = c .before .before .before .loop in
-    let h = c .before .before .loop-test .taken in
+    let t = c .before .before in
+    let l = t .before .loop in
+    let s = t .before .before in
+    let h = t .loop-test .taken in
     record {
       same =
           l .inv .same

@@ -39,18 +39,52 @@ loop-less c = search needs
 
 loop-again : tie.Need-loop-again Inv-loop μ-loop
 unfolding factorRows
-loop-again c = (omega arith, row-taken (c .before .before .before .before .before .is-summer .result) (c .before .before .before .before .before .before .args .quarter) (c .before .before .before .before .loop .i) (c .before .before .before .loop-test .taken) (c .before .before .before .before .loop .inv .0) (sym (c .before .is-for .ensures) ∙ c .if1 .taken))
+loop-again c =
+    let t = c .before .before .before in
+    let l = t .before in
+    let s = l .before in (
+      omega arith,
+      row-taken (s .is-summer .result) (s .before .args .quarter) (l .loop .i) (t .loop-test .taken) (l .loop .inv .0) (sym (c .before .is-for .ensures) ∙ c .if1 .taken),
+    )
 
 loop-less-2 : tie.Need-loop-less-2 Inv-loop μ-loop
 loop-less-2 c = search needs
 
 loop-again-2 : tie.Need-loop-again-2 Inv-loop μ-loop
 unfolding factorRows
-loop-again-2 c = (omega arith, c .before .before .before .before .loop .inv .1 ∙ row-left (c .before .before .before .before .before .is-summer .result) (c .before .before .before .before .before .before .args .quarter) (c .before .before .before .before .loop .i) (c .before .before .before .loop-test .taken) (c .before .before .before .before .loop .inv .0) (sym (c .before .is-for .ensures) ∙ c .if1 .left))
+loop-again-2 c =
+    let t = c .before .before .before in
+    let l = t .before in
+    let s = l .before in (
+      omega arith,
+      l .loop .inv .1
+          ∙ row-left (s .is-summer .result) (s .before .args .quarter) (l .loop .i) (t .loop-test .taken) (l .loop .inv .0) (sym (c .before .is-for .ensures) ∙ c .if1 .left),
+    )
 
 returns : tie.Need-returns Inv-loop μ-loop
 unfolding plantFactor
-returns c = let z : c .before .loop .i ≡ 0 = omega arith in c .before .loop .inv .1 ∙ ap (λ (n : ℕ). firstFor (c .before .before .is-summer .result) (c .before .before .before .args .quarter) (drop n factorRows)) z ∙ ap (λ t. firstFor t (c .before .before .before .args .quarter) factorRows) (c .before .before .is-summer .ensures)
+returns c =
+    let l = c .before .loop in
+    let s = c .before .before in
+    let quarter = s .before .args .quarter in
+    let z : l .i ≡ 0 = omega arith in
+    l .inv .1 ∙ ap (λ (n : ℕ). firstFor (s .is-summer .result) quarter (drop n factorRows)) z
+    ∙ ap (λ t. firstFor t quarter factorRows) (s .is-summer .ensures)
 
 pub plant-factor-spec : {M : Type 1} → statement M
-plant-factor-spec = tie.close (tie.spec Inv-loop μ-loop is-summer-requires loop-holds sub-i mul-r array-copy-out-r is-for-requires loop-less loop-again loop-less-2 loop-again-2 returns)
+plant-factor-spec =
+    tie.close
+    (tie.spec
+    Inv-loop
+    μ-loop
+    is-summer-requires
+    loop-holds
+    sub-i
+    mul-r
+    array-copy-out-r
+    is-for-requires
+    loop-less
+    loop-again
+    loop-less-2
+    loop-again-2
+    returns)

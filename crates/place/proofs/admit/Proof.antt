@@ -1,6 +1,6 @@
--- `place::admit` meets its contract.
-use Rattle.place.proofs.Laws.{not-admitted, admitted-with}
+-- `place::admit` meets its contract. Assumes nothing.
 use borrow.Author.Needs.{needs}
+use Rattle.place.proofs.Laws.{not-admitted, admitted-with}
 use Rattle.place.proofs.admit.Statement.{statement}
 use Rattle.place.proofs.admit.Tie as tie
 
@@ -50,10 +50,16 @@ enum-known-admitted-2 : tie.Need-enum-known-admitted-2
 enum-known-admitted-2 c = search needs
 
 returns : tie.Need-returns
-returns c = let a = c .before .before .before .before .before .before .before .args in not-admitted (a .archive .now) (a .used) (a .plant) (a .measure) (a .links) _ (c .before .before .before .admit .ensures) _ (c .before .admitted .given .1)
+returns c =
+    let f = c .before .before .before in
+    let a = f .before .before .before .before .args in
+    not-admitted (a .archive .now) (a .used) (a .plant) (a .measure) (a .links) _ (f .admit .ensures) _ (c .before .admitted .given .1)
 
 returns-2 : tie.Need-returns-2
-returns-2 c = let a = c .before .before .before .before .before .before .before .args in admitted-with (a .archive .now) (a .used) (a .plant) (a .measure) (a .links) _ (c .before .before .before .admit .ensures) _ (c .before .admitted2 .given .1)
+returns-2 c =
+    let f = c .before .before .before in
+    let a = f .before .before .before .before .args in
+    admitted-with (a .archive .now) (a .used) (a .plant) (a .measure) (a .links) _ (f .admit .ensures) _ (c .before .admitted2 .given .1)
 
 pub admit-spec : {M : Type 1} → statement M
 admit-spec =

@@ -1,3 +1,4 @@
+-- `place::find` meets its contract. Assumes nothing.
 use native.Mathlib.Omega.{arith}
 use borrow.Author.Needs.{needs}
 use Rattle.rules.proofs.Sound.{used-head}
@@ -16,12 +17,18 @@ enum-told : tie.Need-enum-told
 enum-told c = search needs
 
 returns : tie.Need-returns
-returns c = let a = c .before .before .before .before .args in
-    find-unopened (a .archive .now) (a .p) (a .k) _ (unopened (a .archive .now) _ (c .before .before .read-head .ensures) _ (c .enum-told .given .1))
+returns c =
+    let h = c .before .before in
+    let a = h .before .before .args in
+    find-unopened (a .archive .now) (a .p) (a .k) _ (unopened (a .archive .now) _ (h .read-head .ensures) _ (c .enum-told .given .1))
 
 plant-at-requires : tie.Need-plant-at-requires
-plant-at-requires c κs = let a = c .before .before .before .before .before .args in let o = opened (a .archive .now) _ (c .before .before .before .read-head .ensures) _ (c .before .used .given .1) in
-    let h = used-head (a .archive .now) _ (o .is) in (h .some, o .within)
+plant-at-requires c κs =
+    let u = c .before in
+    let h = u .before .before in
+    let a = h .before .before .args in
+    let o = opened (a .archive .now) _ (h .read-head .ensures) _ (u .used .given .1) in
+    (used-head (a .archive .now) _ (o .is) .some, o .within)
 
 enum-known-to-plant : tie.Need-enum-known-to-plant
 enum-known-to-plant c = search needs
@@ -33,17 +40,34 @@ number-requires : tie.Need-number-requires
 number-requires c κs = search needs
 
 returns-2 : tie.Need-returns-2
-returns-2 c = let a = c .before .before .before .before .before .before .before .before .before .args in let o = opened (a .archive .now) _ (c .before .before .before .before .before .before .before .read-head .ensures) _ (c .before .before .before .before .before .used .given .1) in
+returns-2 c =
+    let f = c .before .before .before in
+    let u = f .before .before in
+    let h = u .before .before in
+    let a = h .before .before .args in
+    let o = opened (a .archive .now) _ (h .read-head .ensures) _ (u .used .given .1) in
     find-refused (a .archive .now) (a .p) (a .k) _ (o .is) _ _
-    (unwalked (a .p) _ (c .before .before .before .plant-at .result) _ (c .before .before .before .plant-at .ensures) (c .before .enum-told2 .given .1)) (c .number .ensures)
+    (unwalked (a .p) _ (f .plant-at .result) _ (f .plant-at .ensures) (c .before .enum-told2 .given .1)) (c .number .ensures)
 
 place-under-requires : tie.Need-place-under-requires
-place-under-requires c κs = let a = c .before .before .before .before .before .before .before .before .before .args in let o = opened (a .archive .now) _ (c .before .before .before .before .before .before .before .read-head .ensures) _ (c .before .before .before .before .before .used .given .1) in
-    let w = walked (a .archive .now) _ _ _ (a .p) 0 _ (c .before .before .before .plant-at .result) _ _ (c .before .before .before .plant-at .ensures) (c .before .to-plant .given .1) in omega arith
+place-under-requires c κs =
+    let f = c .before .before .before in
+    let u = f .before .before in
+    let h = u .before .before in
+    let a = h .before .before .args in
+    let o = opened (a .archive .now) _ (h .read-head .ensures) _ (u .used .given .1) in
+    let w = walked (a .archive .now) _ _ _ (a .p) 0 _ (f .plant-at .result) _ _ (f .plant-at .ensures) (c .before .to-plant .given .1) in
+    omega arith
 
 returns-3 : tie.Need-returns-3
-returns-3 c = let a = c .before .before .before .before .before .before .before .before .before .before .args in let o = opened (a .archive .now) _ (c .before .before .before .before .before .before .before .before .read-head .ensures) _ (c .before .before .before .before .before .before .used .given .1) in
-    let w = walked (a .archive .now) _ _ _ (a .p) 0 _ (c .before .before .before .before .plant-at .result) _ _ (c .before .before .before .before .plant-at .ensures) (c .before .before .to-plant .given .1) in
+returns-3 c =
+    let m = c .before .before in
+    let f = m .before .before in
+    let u = f .before .before in
+    let h = u .before .before in
+    let a = h .before .before .args in
+    let o = opened (a .archive .now) _ (h .read-head .ensures) _ (u .used .given .1) in
+    let w = walked (a .archive .now) _ _ _ (a .p) 0 _ (f .plant-at .result) _ _ (f .plant-at .ensures) (m .to-plant .given .1) in
     find-under (a .archive .now) (a .p) (a .k) _ (o .is) _ _ _ (w .is) (w .count) (c .place-under .ensures)
 
 pub find-spec : {M : Type 1} → statement M

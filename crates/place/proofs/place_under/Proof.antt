@@ -1,7 +1,7 @@
--- `place::place_under` meets its contract.
+-- `place::place_under` meets its contract. Assumes nothing.
 use native.Mathlib.Omega.{arith}
-use Rattle.place.proofs.Laws.{walked, unwalked, under-refused, under-found}
 use borrow.Author.Needs.{needs}
+use Rattle.place.proofs.Laws.{walked, unwalked, under-refused, under-found}
 use Rattle.place.proofs.place_under.Statement.{statement}
 use Rattle.place.proofs.place_under.Tie as tie
 
@@ -18,23 +18,32 @@ number-requires : tie.Need-number-requires
 number-requires c κs = search needs
 
 returns : tie.Need-returns
-returns c = let a = c .before .before .before .before .before .args in
+returns c =
+    let f = c .before .before .before in
+    let a = f .before .before .args in
     under-refused (a .archive .now) (a .used) (a .plant) (a .plants) (a .k) _ _
-    (unwalked (a .k) _ (c .before .before .before .measure-at .result) _ (c .before .before .before .measure-at .ensures) (c .before .enum-told .given .1)) (c .number .ensures)
+    (unwalked (a .k) _ (f .measure-at .result) _ (f .measure-at .ensures) (c .before .enum-told .given .1)) (c .number .ensures)
 
 add-admit : tie.Need-add-admit
-add-admit c = let a = c .before .before .before .before .before .args in
-    let w = walked (a .archive .now) (a .used) _ _ (a .k) (a .plant) _ (c .before .before .before .measure-at .result) _ _ (c .before .before .before .measure-at .ensures) (c .before .to-measure .given .1) in
+add-admit c =
+    let f = c .before .before .before in
+    let a = f .before .before .args in
+    let w = walked (a .archive .now) (a .used) _ _ (a .k) (a .plant) _ (f .measure-at .result) _ _ (f .measure-at .ensures) (c .before .to-measure .given .1) in
     omega arith
 
 admit-requires : tie.Need-admit-requires
-admit-requires c κs = let a = c .before .before .before .before .before .args in
-    let w = walked (a .archive .now) (a .used) _ _ (a .k) (a .plant) _ (c .before .before .before .measure-at .result) _ _ (c .before .before .before .measure-at .ensures) (c .before .to-measure .given .1) in
+admit-requires c κs =
+    let f = c .before .before .before in
+    let a = f .before .before .args in
+    let w = walked (a .archive .now) (a .used) _ _ (a .k) (a .plant) _ (f .measure-at .result) _ _ (f .measure-at .ensures) (c .before .to-measure .given .1) in
     record { room = omega arith; few = omega arith; plant-used = omega arith; measure-used = omega arith }
 
 returns-2 : tie.Need-returns-2
-returns-2 c = let a = c .before .before .before .before .before .before .args in
-    let w = walked (a .archive .now) (a .used) _ _ (a .k) (a .plant) _ (c .before .before .before .before .measure-at .result) _ _ (c .before .before .before .before .measure-at .ensures) (c .before .before .to-measure .given .1) in
+returns-2 c =
+    let m = c .before .before in
+    let f = m .before .before in
+    let a = f .before .before .args in
+    let w = walked (a .archive .now) (a .used) _ _ (a .k) (a .plant) _ (f .measure-at .result) _ _ (f .measure-at .ensures) (m .to-measure .given .1) in
     under-found (a .archive .now) (a .used) (a .plant) (a .plants) (a .k) _ _ _ (w .is) (omega arith) (c .admit .ensures)
 
 pub place-under-spec : {M : Type 1} → statement M

@@ -1,3 +1,4 @@
+-- `place::plant_at` meets its contract. Assumes nothing.
 use borrow.Author.Needs.{needs}
 use Rattle.place.proofs.Laws.{walk-from}
 use Rattle.place.proofs.plant_at.Statement.{statement}
@@ -10,7 +11,9 @@ walk-to-requires : tie.Need-walk-to-requires
 walk-to-requires c κs = search needs
 
 returns : tie.Need-returns
-returns c = let a = c .before .before .before .args in walk-from (a .archive .now) (a .used) _ _ (a .p) _ _ _ _ (c .walk-to .ensures) (c .before .link-of .ensures .0)
+returns c =
+    let a = c .before .before .before .args in
+    walk-from (a .archive .now) (a .used) _ _ (a .p) _ _ _ _ (c .walk-to .ensures) (c .before .link-of .ensures .0)
 
 pub plant-at-spec : {M : Type 1} → statement M
 plant-at-spec = tie.close (tie.spec link-of-requires walk-to-requires returns)

@@ -14,8 +14,9 @@ use Rattle.curve.proofs.fill.Reads as fill-reads
 
 returns : tie.Need-returns
 returns c =
-    let a = c .before .before .before .before .before .args in
-    sym (is-not-rising (point (a .speed) (a .power)) (a .read) (a .powers .now) (c .before .before .if1 .left) (omega arith))
+    let first = c .before .before in
+    let a = first .before .before .before .args in
+    sym (is-not-rising (point (a .speed) (a .power)) (a .read) (a .powers .now) (first .if1 .left) (omega arith))
 
 fill-requires : tie.Need-fill-requires
 fill-requires c κs = search needs
@@ -26,7 +27,8 @@ cast-powers c = search needs
 mul-powers : tie.Need-mul-powers
 mul-powers c = search needs
 
-same-size : (c : lts.Joined1 (fill-reads.Asked, fill-reads.Learnt) reads.Pre reads.Post) → length (c .if1 .powers) ≡ length (c .before .before .before .args .powers .now)
+same-size : (c : lts.Joined1 (fill-reads.Asked, fill-reads.Learnt) reads.Pre reads.Post)
+    → length (c .if1 .powers) ≡ length (c .before .before .before .args .powers .now)
 same-size c = ⊎-elim (λ w. ap length (w .1)) (λ w. ap length (w .7) ∙ w .4 .kept .0) (c .if1 .came)
 
 slice-write-powers : tie.Need-slice-write-powers
@@ -38,10 +40,10 @@ same-length c = simp length-set (same-size c)
 returns-2 : tie.Need-returns-2
 returns-2 c =
     let a = c .before .before .before .args in
-    ⊎-elim
-    (λ w. first-set (point (a .speed) (a .power)) (a .read) (a .powers .now) (c .if1 .next) (c .if1 .powers) (w .0 .taken) (w .1) (w .2))
-    (λ w. next-set (point (a .speed) (a .power)) (a .read) (a .powers .now) (c .if1 .next) (c .if1 .powers) (w .0 .left) (w .2 .left) (w .7 ∙ w .4 .ensures) (w .8))
-    (c .if1 .came)
+    let p = point (a .speed) (a .power) in
+    let j = c .if1 in
+    ⊎-elim (λ w. first-set p (a .read) (a .powers .now) (j .next) (j .powers) (w .0 .taken) (w .1) (w .2))
+    (λ w. next-set p (a .read) (a .powers .now) (j .next) (j .powers) (w .0 .left) (w .2 .left) (w .7 ∙ w .4 .ensures) (w .8)) (j .came)
 
 pub add-point-spec : {M : Type 1} → statement M
 add-point-spec =

@@ -9,13 +9,19 @@ returns : tie.Need-returns
 returns c = answer-range (c .before .before .args .read) (not-true _ (c .if1 .taken))
 
 returns-2 : tie.Need-returns-2
-returns-2 c = answer-few (c .before .before .before .before .args .read) (not-false _ (c .before .before .if1 .left)) (omega arith)
+returns-2 c =
+    let range = c .before .before in
+    answer-few (range .before .before .args .read) (not-false _ (range .if1 .left)) (omega arith)
 
 returns-3 : tie.Need-returns-3
-returns-3 c = answer-read (c .before .before .before .before .before .args .read) (not-false _ (c .before .before .before .if1 .left)) (omega arith) (c .if3 .taken)
+returns-3 c =
+    let range = c .before .before .before in
+    answer-read (range .before .before .args .read) (not-false _ (range .if1 .left)) (omega arith) (c .if3 .taken)
 
 returns-4 : tie.Need-returns-4
-returns-4 c = answer-not-rising (c .before .before .before .before .before .args .read) (not-false _ (c .before .before .before .if1 .left)) (omega arith) (c .if3 .left)
+returns-4 c =
+    let range = c .before .before .before in
+    answer-not-rising (range .before .before .args .read) (not-false _ (range .if1 .left)) (omega arith) (c .if3 .left)
 
 pub answer-of-spec : {M : Type 1} → statement M
 answer-of-spec = tie.close (tie.spec returns returns-2 returns-3 returns-4)

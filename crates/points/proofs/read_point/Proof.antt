@@ -48,7 +48,8 @@ tested : (c : lts.After-is-curve-power (
   add-point-reads.Learnt,
 ) reads.Pre reads.Post) →
     let s = c .before .before .before in
-    Tested (s .before .before .before .before .args .r .now) (s .before .link-at .result) (s .watt-at .result .0) (c .before .is-speed .result) (c .is-curve-power .result)
+    Tested (s .before .before .before .before .args .r .now) (s .before .link-at .result) (s .watt-at .result .0) (c .before .is-speed .result)
+    (c .is-curve-power .result)
 tested c =
     let s = c .before .before .before in
     record {
@@ -79,7 +80,8 @@ returns c =
     let v = u .before .speed-of in
     let s = u .before .before .before in
     let a = s .before .before .before .before .before .before .before .before .args in
-    record-allowed (tested (s .before)) (s .if1 .taken) (v .result .0) (u .unsigned .result) (walk (a .read) (a .powers .now)) (walk (f .result) (f .last .1 .0))
+    record-allowed (tested (s .before)) (s .if1 .taken) (v .result .0) (u .unsigned .result) (walk (a .read) (a .powers .now))
+    (walk (f .result) (f .last .1 .0))
     (v .ensures .0) (u .unsigned .ensures) (f .ensures)
 
 returns-2 : tie.Need-returns-2

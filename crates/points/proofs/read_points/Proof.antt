@@ -60,7 +60,8 @@ returns c =
     let i = t .before .before in
     let a = i .before .before .before .args in
     chain-denies (a .archive .now) (a .place) (i .link-of .result) (i .link-of .ensures .0)
-    (walk-refused stepped (a .archive .now) (a .place .used) pointKind (l .inv .0) (f .ensures) (no-at (f .result) (c .before .match .keys2)) (t .loop-test .taken))
+    (walk-refused stepped (a .archive .now) (a .place .used) pointKind (l .inv .0) (f .ensures) (no-at (f .result) (c .before .match .keys2))
+    (t .loop-test .taken))
     (c .refusal-of .ensures) (l .powers)
 
 -- the record that the link leads to
@@ -80,11 +81,11 @@ met-at : (c : lts.After-known-told (
     let a = w .before .before .before .before .args in
     Met (a .archive .now) (a .place .used) pointKind (w .loop .last) (w .loop .link) (c .before .answer .given .0 .0)
 met-at c =
-    let f = c .before .before .before .follow in
-    let w = c .before .before .before .before .before in
-    let a = w .before .before .before .before .args in
     let r = c .before .answer .given in
-    met (a .archive .now) (a .place .used) pointKind (w .loop .last) (w .loop .link) (f .result) (f .ensures) (r .0 .0) (r .1)
+    let f = c .before .before .before in
+    let w = f .before .before in
+    let a = w .before .before .before .before .args in
+    met (a .archive .now) (a .place .used) pointKind (w .loop .last) (w .loop .link) (f .follow .result) (f .follow .ensures) (r .0 .0) (r .1)
 
 mul-read-point : tie.Need-mul-read-point Inv-loop μ-loop
 mul-read-point c = start-fits (met-at c .below) (c .before .before .before .before .before .before .before .before .before .pre .0 .few)
@@ -126,8 +127,9 @@ loop-less c = let m = met-at (c .before .before .before .before .before .before)
 
 loop-again : tie.Need-loop-again Inv-loop μ-loop
 loop-again c =
-    let f = c .before .before .before .read-point in
-    let r = c .before .before .before .before .before .before in
+    let p = c .before .before .before in
+    let f = p .read-point in
+    let r = p .before .before .before in
     let m = met-at r in
     let l = r .before .before .before .before .before .loop in
     let a = r .before .before .before .before .before .before .before .before .before .args in

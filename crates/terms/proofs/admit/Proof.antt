@@ -1,8 +1,6 @@
--- `terms::admit` meets its contract.
-use mathlib.Core.Path.{sym, _∙_}
-use borrow.Author.Tests.{not-true, not-false}
-use Rattle.terms.proofs.Laws.{admit-plant, admit-measure, admit-both}
+-- `terms::admit` meets its contract. Assumes nothing.
 use borrow.Author.Needs.{needs}
+use Rattle.terms.proofs.Laws.{admit-plant, admit-measure, admit-both, refused-by, allowed-by}
 use Rattle.terms.proofs.admit.Statement.{statement}
 use Rattle.terms.proofs.admit.Tie as tie
 
@@ -10,15 +8,13 @@ plant-allowed-requires : tie.Need-plant-allowed-requires
 plant-allowed-requires c κs = search needs
 
 returns : tie.Need-returns
-returns c = let a = c .before .before .before .before .args in admit-plant (a .plant .now) (a .measure .now) (sym (c .before .plant-allowed .ensures) ∙ not-true _ (c .if1 .taken))
+returns c = search (admit-plant, refused-by)
 
 measure-allowed-requires : tie.Need-measure-allowed-requires
 measure-allowed-requires c κs = search needs
 
 returns-2 : tie.Need-returns-2
-returns-2 c = let a = c .before .before .before .before .before .before .args in
-    admit-measure (a .plant .now) (a .measure .now) (sym (c .before .before .before .plant-allowed .ensures) ∙ not-false _ (c .before .before .if1 .left))
-    (sym (c .before .measure-allowed .ensures) ∙ not-true _ (c .if2 .taken))
+returns-2 c = search (admit-measure, allowed-by, refused-by)
 
 technology-of-requires : tie.Need-technology-of-requires
 technology-of-requires c κs = search needs
@@ -36,10 +32,12 @@ execution-of-requires : tie.Need-execution-of-requires
 execution-of-requires c κs = search needs
 
 returns-3 : tie.Need-returns-3
-returns-3 c = let a = c .before .before .before .before .before .before .before .before .before .before .before .args in
-    admit-both (a .plant .now) (a .measure .now) (sym (c .before .before .before .before .before .before .before .before .plant-allowed .ensures) ∙ not-false _ (c .before .before .before .before .before .before .before .if1 .left))
-    (sym (c .before .before .before .before .before .before .measure-allowed .ensures) ∙ not-false _ (c .before .before .before .before .before .if2 .left))
-    (c .before .before .before .before .technology-of .ensures) (c .before .before .before .variant-of .ensures) (c .before .before .watt-at .ensures) (c .before .direction-of .ensures) (c .execution-of .ensures)
+returns-3 c =
+    let nominal = c .before .before in
+    let variant = nominal .before in
+    let a = variant .before .before .before .before .before .before .before .before .args in
+    admit-both (a .plant .now) (a .measure .now) (search allowed-by) (search allowed-by)
+    (variant .before .technology-of .ensures) (variant .variant-of .ensures) (nominal .watt-at .ensures) (c .before .direction-of .ensures) (c .execution-of .ensures)
 
 pub admit-spec : {M : Type 1} → statement M
 admit-spec =

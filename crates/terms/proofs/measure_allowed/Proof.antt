@@ -1,3 +1,4 @@
+-- `terms::measure_allowed` meets its contract. Assumes nothing.
 use borrow.Author.Tests.{le-leb, lt-leb, eq-eqb, ne-eqb}
 use borrow.Author.Needs.{needs}
 use Rattle.rules.specs.Terms.{measureAllowed}
@@ -20,22 +21,49 @@ shared-slice-read-execution c = search needs
 
 returns-3 : tie.Need-returns-3
 unfolding measureAllowed
-returns-3 c = rw (le-leb 1 _ (c .before .before .before .if1 .left), le-leb _ 2 (c .before .before .if2 .left), lt-leb 1 _ (c .if3 .taken))
+returns-3 c =
+    let direction = c .before .before in
+    rw (le-leb 1 _ (direction .before .if1 .left), le-leb _ 2 (direction .if2 .left), lt-leb 1 _ (c .if3 .taken))
 
 returns-4 : tie.Need-returns-4
 unfolding measureAllowed
-returns-4 c = rw (le-leb 1 _ (c .before .before .before .before .if1 .left), le-leb _ 2 (c .before .before .before .if2 .left), le-leb 1 _ (c .before .if3 .left), lt-leb _ 3 (c .if4 .taken))
+returns-4 c =
+    let direction = c .before .before .before in
+    rw (
+      le-leb 1 _ (direction .before .if1 .left),
+      le-leb _ 2 (direction .if2 .left),
+      le-leb 1 _ (c .before .if3 .left),
+      lt-leb _ 3 (c .if4 .taken),
+    )
 
 returns-5 : tie.Need-returns-5
 unfolding measureAllowed
-returns-5 c = rw (le-leb 1 _ (c .before .before .before .before .before .if1 .left), le-leb _ 2 (c .before .before .before .before .if2 .left), le-leb 1 _ (c .before .before .if3 .left), le-leb _ 3 (c .before .if4 .left), eq-eqb _ 2 (c .if5 .taken))
+returns-5 c =
+    let execution = c .before in
+    let direction = execution .before .before .before in
+    rw (
+      le-leb 1 _ (direction .before .if1 .left),
+      le-leb _ 2 (direction .if2 .left),
+      le-leb 1 _ (execution .before .if3 .left),
+      le-leb _ 3 (execution .if4 .left),
+      eq-eqb _ 2 (c .if5 .taken),
+    )
 
 shared-slice-read-result : tie.Need-shared-slice-read-result
 shared-slice-read-result c = search needs
 
 returns-6 : tie.Need-returns-6
 unfolding measureAllowed
-returns-6 c = rw (le-leb 1 _ (c .before .before .before .before .before .before .if1 .left), le-leb _ 2 (c .before .before .before .before .before .if2 .left), le-leb 1 _ (c .before .before .before .if3 .left), le-leb _ 3 (c .before .before .if4 .left), ne-eqb _ 2 (c .before .if5 .left))
+returns-6 c =
+    let execution = c .before .before in
+    let direction = execution .before .before .before in
+    rw (
+      le-leb 1 _ (direction .before .if1 .left),
+      le-leb _ 2 (direction .if2 .left),
+      le-leb 1 _ (execution .before .if3 .left),
+      le-leb _ 3 (execution .if4 .left),
+      ne-eqb _ 2 (c .before .if5 .left),
+    )
 
 pub measure-allowed-spec : {M : Type 1} → statement M
 measure-allowed-spec =

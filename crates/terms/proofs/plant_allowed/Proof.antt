@@ -1,3 +1,4 @@
+-- `terms::plant_allowed` meets its contract. Assumes nothing.
 use mathlib.Core.Path.{_∙_, ap}
 use borrow.Author.Tests.{le-leb, lt-leb}
 use borrow.Author.Needs.{needs}
@@ -21,11 +22,20 @@ shared-slice-read-variant c = search needs
 
 returns-3 : tie.Need-returns-3
 unfolding plantAllowed
-returns-3 c = rw (le-leb 1 _ (c .before .before .before .if1 .left), le-leb _ 3 (c .before .before .if2 .left), lt-leb 1 _ (c .if3 .taken))
+returns-3 c =
+    let technology = c .before .before in
+    rw (le-leb 1 _ (technology .before .if1 .left), le-leb _ 3 (technology .if2 .left), lt-leb 1 _ (c .if3 .taken))
 
 returns-4 : tie.Need-returns-4
 unfolding plantAllowed
-returns-4 c = rw (le-leb 1 _ (c .before .before .before .before .if1 .left), le-leb _ 3 (c .before .before .before .if2 .left), le-leb 1 _ (c .before .if3 .left), lt-leb _ 2 (c .if4 .taken))
+returns-4 c =
+    let technology = c .before .before .before in
+    rw (
+      le-leb 1 _ (technology .before .if1 .left),
+      le-leb _ 3 (technology .if2 .left),
+      le-leb 1 _ (c .before .if3 .left),
+      lt-leb _ 2 (c .if4 .taken),
+    )
 
 watt-at-requires : tie.Need-watt-at-requires
 watt-at-requires c κs = search needs
@@ -36,8 +46,14 @@ is-nominal-power-requires c κs = search needs
 returns-5 : tie.Need-returns-5
 unfolding plantAllowed
 returns-5 c =
-    rw (le-leb 1 _ (c .before .before .before .before .before .before .if1 .left), le-leb _ 3 (c .before .before .before .before .before .if2 .left), le-leb 1 _ (c .before .before .before .if3 .left), le-leb _ 2 (c .before .before .if4 .left))
-    (c .is-nominal-power .ensures ∙ ap isNominalPower (c .before .watt-at .ensures))
+    let variant = c .before .before in
+    let technology = variant .before .before .before in
+    rw (
+      le-leb 1 _ (technology .before .if1 .left),
+      le-leb _ 3 (technology .if2 .left),
+      le-leb 1 _ (variant .before .if3 .left),
+      le-leb _ 2 (variant .if4 .left),
+    ) (c .is-nominal-power .ensures ∙ ap isNominalPower (c .before .watt-at .ensures))
 
 pub plant-allowed-spec : {M : Type 1} → statement M
 plant-allowed-spec =

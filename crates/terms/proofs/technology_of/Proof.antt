@@ -1,3 +1,4 @@
+-- `terms::technology_of` meets its contract. Assumes nothing.
 use borrow.Author.Tests.{eq-eqb, ne-eqb}
 use borrow.Author.Needs.{needs}
 use Rattle.terms.proofs.technology_of.Statement.{statement}

@@ -26,10 +26,14 @@ cast-t6 : tie.Need-cast-t6
 cast-t6 c = search needs
 
 returns : tie.Need-returns
-returns c = neg-is (c .before .before .args .amount) (omega arith) ∙ ap (λ (d : Direction). signed d (c .before .before .args .amount)) (sym (c .enum-told .given .1))
+returns c =
+    let amount = c .before .before .args .amount in
+    neg-is amount (omega arith) ∙ ap (λ (d : Direction). signed d amount) (sym (c .enum-told .given .1))
 
 returns-2 : tie.Need-returns-2
-returns-2 c = toZ-pos w64 (omega arith) ∙ ap (λ (d : Direction). signed d (c .before .before .args .amount)) (sym (c .enum-told2 .given .1))
+returns-2 c =
+    let amount = c .before .before .args .amount in
+    toZ-pos w64 (omega arith) ∙ ap (λ (d : Direction). signed d amount) (sym (c .enum-told2 .given .1))
 
 pub booked-spec : {M : Type 1} → statement M
 booked-spec = tie.close (tie.spec enum-told cast-t4 sub-t5 enum-told-2 cast-t6 returns returns-2)

@@ -1,6 +1,6 @@
 -- `units::irradiance_of` meets its contract. Assumes nothing.
 use native.Mathlib.Omega.{arith}
-use Rattle.units.proofs.Weather.{word-natural}
+use Rattle.units.proofs.Words.{word-natural}
 use Rattle.units.proofs.irradiance_of.Statement.{statement}
 use Rattle.units.proofs.irradiance_of.Tie as tie
 

@@ -1,6 +1,6 @@
 -- `units::speed_of` meets its contract. Assumes nothing.
 use native.Mathlib.Omega.{arith}
-use Rattle.units.proofs.Weather.{word-natural}
+use Rattle.units.proofs.Words.{word-natural}
 use Rattle.units.proofs.speed_of.Statement.{statement}
 use Rattle.units.proofs.speed_of.Tie as tie
 

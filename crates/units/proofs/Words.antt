@@ -1,4 +1,4 @@
--- Words as signed numbers.
+-- A word in a range that starts at 0, tested and read without a sign.
 use mathlib.Core.Path.{_≡_, refl, _∙_}
 use mathlib.Core.Bool.{Bool, true, false}
 use Prim.Native.Nat.{ℕ, _^_, _≤_, _<_}
