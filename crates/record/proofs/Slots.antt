@@ -1,5 +1,5 @@
 -- Links counted one by one: what an answer to a link's number says of those from it on.
-use mathlib.Core.Path.{_≡_, refl, sym, _∙_, ap}
+use mathlib.Core.Path.{_≡_, refl, sym, _∙_}
 use mathlib.Core.List.{List, [], _∷_, List·Memᴰ, List·Memᴰ·head, List·Memᴰ·tail}
 use Prim.Native.Nat.{ℕ, zero, suc, _+_, _≤_, _<_}
 use native.Mathlib.Omega.{arith}
@@ -43,9 +43,12 @@ here ls i {s} {at} {to} e f =
         (rw (← a, ← t), omega arith, List·Memᴰ·head e)
     go (l ∷ ls) (suc i) q = let w = go ls i q in (w .0, omega (arith, w .1), List·Memᴰ·tail (w .2))
 
--- no link is left
-pub past : (ls : List Link) (i : ℕ) {s : Slot} → s ≡ slotAnswer ls i → s ≡ slot.None → drop i ls ≡ []
-past ls i {s} e f = go ls i (sym f ∙ e)
+-- no link is left at i
+pub record Past (ls : List Link) (i : ℕ) : Type 0 where
+  pub from : drop i ls ≡ []
+
+pub past : (ls : List Link) (i : ℕ) {s : Slot} → s ≡ slotAnswer ls i → s ≡ slot.None → Past ls i
+past ls i {s} e f = record { from = go ls i (sym f ∙ e) }
   where
     go : (ls : List Link) (i : ℕ) → slot.None ≡ slotAnswer ls i → drop i ls ≡ []
     go [] i q = drop-nil i

@@ -1,4 +1,4 @@
--- `filing::place_for` meets its contract. Each test's fact is stated once, at the state where the code learns it.
+-- `filing::destination_for` meets its contract. Each test's fact is stated once, at the state where the code learns it.
 use mathlib.Core.Path.{_≡_, sym, _∙_, ap, subst}
 use mathlib.Core.Bool.{true}
 use Prim.Native.Nat.{_+_, _*_}
@@ -10,13 +10,13 @@ use Rattle.rules.specs.Filing.{newAllowed, offsetFor}
 use Rattle.rules.proofs.Append.{allowed-new}
 use Rattle.rules.proofs.AppendSteps.{used-within, append-no-head, append-bad-record, append-bad-owner, append-bad-chain, append-full}
 use Rattle.chains.specs.declared.ChainEnd.{ChainEnd}
-use Rattle.filing.specs.Places.{offsetOutcome}
+use Rattle.filing.specs.Destinations.{offsetOutcome}
 use Rattle.archive.proofs.Laws.{opened, unopened}
-use Rattle.filing.proofs.Places.{Ended, chain-says, walk-needs, placed}
-use Rattle.filing.proofs.place_for.Statement.{statement}
-use Rattle.filing.proofs.place_for.Tie as tie
-use Rattle.filing.proofs.place_for.Reads as reads
-use Rattle.filing.proofs.place_for.Lts as lts
+use Rattle.filing.proofs.Destinations.{Ended, chain-says, walk-needs, placed}
+use Rattle.filing.proofs.destination_for.Statement.{statement}
+use Rattle.filing.proofs.destination_for.Tie as tie
+use Rattle.filing.proofs.destination_for.Reads as reads
+use Rattle.filing.proofs.destination_for.Lts as lts
 use Rattle.record.proofs.kind_of.Reads as kind-of-reads
 use Rattle.archive.proofs.read_head.Reads as read-head-reads
 use Rattle.chains.proofs.walk_all.Reads as walk-all-reads
@@ -134,8 +134,8 @@ returns-6 c =
     placed (a .archive .now) (a .owner) _ (used-is (c .before .before .before .before .before .before .before .before .before .before .before .before .before)) (a .new .now) (allowed (c .before .before .before .before .before .before .before .before .before .before)) (k .result) (k .ensures) _ (offset-is (c .before .before .before .before .before .before)) _ (c .before .before .last .given .0 .1 .0)
     (ended (c .before .before .before .before) _ (c .before .before .last .given .1)) (c .if2 .left)
 
-pub place-for-spec : {M : Type 1} → statement M
-place-for-spec =
+pub destination-for-spec : {M : Type 1} → statement M
+destination-for-spec =
     tie.close
     (tie.spec
     read-head-requires

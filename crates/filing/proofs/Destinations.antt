@@ -1,4 +1,4 @@
--- What each answer of place_for is, over plain variables.
+-- What each answer of destination_for is, over plain variables.
 use mathlib.Core.Path.{_≡_, refl, sym, _∙_, ap, subst}
 use mathlib.Core.Bool.{true}
 use mathlib.Core.List.{List}
@@ -14,8 +14,9 @@ use Rattle.rules.proofs.AppendSteps.{used-within, offset-within, append-files, 
 use Rattle.chains.specs.declared.ChainEnd.{ChainEnd}
 use Rattle.chains.specs.declared.ChainEnd.the-variants as chainEnd
 use Rattle.chains.specs.Answers.{endAnswer}
-use Rattle.filing.specs.declared.Place.the-variants as place
-use Rattle.filing.specs.Places.{Places}
+use Rattle.chains.specs.Held.{LinkHeld}
+use Rattle.filing.specs.declared.Destination.the-variants as destination
+use Rattle.filing.specs.Destinations.{Goes}
 
 -- ---- the answer of a walk to the end of a chain taken apart
 
@@ -34,12 +35,15 @@ chain-says x first o e = subst (Ended first o) (sym e) (go o)
 -- ---- the place of the new record
 
 module _ (archive : List ℕ) (owner used : ℕ) (u : usedOf archive ≡ given used) where
-  pub walk-needs : (kind offset : ℕ) → offsetFor archive used owner kind ≡ given offset → (32 * used ≤ length archive) × (used < 65536) × (owner < used) × (offset + 4 ≤ 32)
-  walk-needs kind offset o = let w = used-within archive used u in let x = offset-within archive used owner kind offset o in omega arith
+  pub walk-needs : (kind offset : ℕ) → offsetFor archive used owner kind ≡ given offset → LinkHeld archive used owner offset
+  walk-needs kind offset o =
+      let w = used-within archive used u in
+      let x = offset-within archive used owner kind offset o in
+      record { fits = w .1; few = w .2; below = x .0; within = x .2 }
 
   pub placed : (new : List ℕ) → newAllowed new ≡ true → (kind : ℕ) → kind ≡ kindOf new → (offset : ℕ) → offsetFor archive used owner kind ≡ given offset
       → (last count : ℕ) → Ended (32 * owner + offset) (chain archive used kind owner (linkAt archive (32 * owner + offset))) (chainEnd.At last count)
-      → used < length archive / 32 → Places archive owner new (place.At used last)
+      → used < length archive / 32 → Goes archive owner new (destination.At used last)
   placed new a kind k offset o last count w h =
       let l = whole-length (length archive) (used-head archive used u .whole) in
       let f = last-fits archive owner new used u a kind k offset o (w .0) (w .1) in
@@ -47,8 +51,5 @@ module _ (archive : List ℕ) (owner used : ℕ) (u : usedOf archive ≡ given u
       let e = w .2 in (
         append-files archive owner new used u a kind k offset o (w .0) (w .1) h
             ∙ ap (λ (p : ℕ). given (appendAfter archive used p new)) (sym e),
-        allowed-new new a .size,
-        omega arith,
-        omega arith,
-        omega arith,
+        record { size = allowed-new new a .size; free = omega arith; link = omega arith; few = omega arith },
       )
