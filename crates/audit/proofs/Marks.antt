@@ -2,7 +2,7 @@
 use mathlib.Core.Path.{_≡_, refl, sym, _∙_, ap, subst}
 use mathlib.Core.Bool.{Bool, true, false, cond, _&&_, _||_, and-false, or-true}
 use mathlib.Core.List.{List, [], _∷_, _++_}
-use mathlib.Core.Logic.{_⊎_}
+use mathlib.Core.Logic.{_⊎_, inl}
 use Prim.Native.Nat.{ℕ, zero, suc, _+_, _*_, _≤_, _<_}
 use native.Mathlib.Omega.{arith}
 use native.Mathlib.Numerals.{add-one}
@@ -160,8 +160,8 @@ module _ (archive : List ℕ) where
   -- ---- a record
 
   module _ (used n : ℕ) {marks later : List ℕ} where
-    pub unknown-done : (n ≡ 0 → ⊥) → isKind (kindOf (recordAt archive n)) ≡ false → RecordChecked archive used n marks later wrongKind
-    unknown-done some k = checked-refused _ _ marks later wrongKind (unknown-checked archive used n some k) (λ z. omega arith)
+    pub unknown-done : 1 ≤ n → isKind (kindOf (recordAt archive n)) ≡ false → RecordChecked archive used n marks later wrongKind
+    unknown-done some k = checked-refused _ _ marks later wrongKind (unknown-checked archive used n (λ z. omega arith) k) (λ z. omega arith)
 
     pub record-done : {r : ℕ} → (n ≡ 0) ⊎ (isKind (kindOf (recordAt archive n)) ≡ true) → LinksChecked archive used n (linksAt archive n) marks later r
         → RecordChecked archive used n marks later r
@@ -170,9 +170,9 @@ module _ (archive : List ℕ) where
   -- ---- all records
 
   module _ (used : ℕ) {start : List ℕ} where
-    pub records-none : RecordsChecked archive used 0 start start 0
+    none-checked : RecordsChecked archive used 0 start start 0
     unfolding linkPlaces
-    records-none = checked-none start
+    none-checked = checked-none start
 
     module _ (n : ℕ) {marks later : List ℕ} {r : ℕ} (before : RecordsChecked archive used n start marks 0) (here : RecordChecked archive used n marks later r) where
       one-more : RecordsChecked archive used (suc n) start later r
@@ -190,6 +190,14 @@ module _ (archive : List ℕ) where
           go : (t : Bool) → eqb n m ≡ t → (n < m → RecordsChecked archive used m start later r) → RecordsChecked archive used (suc m) start later r
           go true e f = subst (λ (k : ℕ). RecordsChecked archive used (suc k) start later r) (eqb-true n m e) one-more
           go false e f = then-stops (f (omega (arith, eqb-false n m e))) (recordChecked archive used m) s
+
+    -- the head, which has no kind, comes first
+    module _ {later : List ℕ} {r : ℕ} (head : LinksChecked archive used 0 (linksAt archive 0) start later r) where
+      pub head-passes : r ≡ 0 → RecordsChecked archive used 1 start later 0
+      head-passes z = records-more 0 none-checked (record-done used 0 (inl refl) head) z
+
+      pub head-stops : 1 ≤ used → (r ≡ 0 → ⊥) → RecordsChecked archive used used start later r
+      head-stops h s = records-stop 0 none-checked (record-done used 0 (inl refl) head) used (omega arith) s
 
 -- ---- marks
 

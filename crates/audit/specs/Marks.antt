@@ -55,3 +55,8 @@ pub record Tabled (archive : List ℕ) (used : ℕ) (marks : List ℕ) : Type 0 
   pub fits : 32 * used ≤ length archive
   pub few : used < 65536
   pub size : length marks ≡ 65536
+
+-- a used record but the head
+pub record InChains (used n : ℕ) : Type 0 where
+  pub some : 1 ≤ n
+  pub below : n < used

@@ -5,7 +5,7 @@ ghost use lib.ListN.{length};
 ghost use Rattle.rules.specs.Links.{link, linksAt};
 ghost use Rattle.rules.specs.Promises.{Audits};
 ghost use Rattle.chains.specs.Held.{LinkHeld};
-ghost use Rattle.audit.specs.Marks.{marked, markedOnce, LinkChecked, LinksChecked, RecordChecked, RecordsChecked, Tabled};
+ghost use Rattle.audit.specs.Marks.{marked, markedOnce, LinkChecked, LinksChecked, RecordChecked, RecordsChecked, Tabled, InChains};
 use archive::Head;
 use chains::Link;
 use record::Slot;
@@ -44,38 +44,41 @@ fn check_links(archive: &[u8], used: u64, n: u64, marks: &mut [u8]) -> u64
     ensures { λ r. let a = now (archive .entry) in ⌜ LinksChecked a used n (linksAt a n) (now (marks .entry)) (now (marks .exit)) r ⌝ }
 {
     let mut i: u64 = 0;
-    loop {
+    while i < record::MOST_LINKS {
         let Slot::Link(at, to) = record::slot_at(archive, n, i) else {
-            return 0;
+            break;
         };
-        let number = check_link(archive, used, n, at as usize, to, marks);
-        if number != 0 {
-            return number;
+        let refused = check_link(archive, used, n, at as usize, to, marks);
+        if refused != 0 {
+            return refused;
         }
         i += 1;
     }
+    0
 }
 
-// The kind of record n, then its links; the head has no kind.
+// The kind of record n, which isn't the head, then its links.
 fn check_record(archive: &[u8], used: u64, n: u64, marks: &mut [u8]) -> u64
-    requires { ⌜ Tabled (now archive) used (now marks) × (n < used) ⌝ }
+    requires { ⌜ Tabled (now archive) used (now marks) × InChains used n ⌝ }
     ensures { λ r. ⌜ RecordChecked (now (archive .entry)) used n (now (marks .entry)) (now (marks .exit)) r ⌝ }
 {
-    if n != 0 {
-        let i = n as usize;
-        if !record::is_kind(record::kind_of(&archive[32 * i..32 * i + 32])) {
-            return refusal::WRONG_KIND;
-        }
+    let i = n as usize;
+    if !record::is_kind(record::kind_of(&archive[32 * i..32 * i + 32])) {
+        return refusal::WRONG_KIND;
     }
     check_links(archive, used, n, marks)
 }
 
-// All used records by number.
+// The head's link, then each used record by number.
 fn check_records(archive: &[u8], used: u64, marks: &mut [u8]) -> u64
-    requires { ⌜ Tabled (now archive) used (now marks) ⌝ }
+    requires { ⌜ Tabled (now archive) used (now marks) × (1 ≤ used) ⌝ }
     ensures { λ r. ⌜ RecordsChecked (now (archive .entry)) used used (now (marks .entry)) (now (marks .exit)) r ⌝ }
 {
-    let mut n: u64 = 0;
+    let head = check_links(archive, used, 0, marks);
+    if head != 0 {
+        return head;
+    }
+    let mut n: u64 = 1;
     while n < used {
         let number = check_record(archive, used, n, marks);
         if number != 0 {

@@ -42,8 +42,8 @@ pub fn append(archive: &mut [u8], owner: u64, new: &[u8]) -> u64
 {
     match destination_for(archive, owner, new) {
         Destination::Refused(number) => number,
-        Destination::At(used, last) => {
-            file(archive, used, last, new);
+        Destination::At(free, link) => {
+            file(archive, free, link, new);
             0
         }
     }
@@ -60,15 +60,16 @@ fn new_allowed(new: &[u8]) -> bool
         return false;
     }
     let mut i: u64 = 0;
-    loop {
+    while i < record::MOST_LINKS {
         let Slot::Link(at, _) = record::slot_of(new, i) else {
-            return true;
+            break;
         };
         if record::link_at(new, at as usize) != 0 {
             return false;
         }
         i += 1;
     }
+    true
 }
 
 // The byte of an owner's link, or 15.
@@ -86,15 +87,16 @@ fn offset_for(archive: &[u8], used: u64, owner: u64, kind: u8) -> Offset
         return Offset::Refused(refusal::BAD_OWNER);
     }
     let mut i: u64 = 0;
-    loop {
+    while i < record::MOST_LINKS {
         let Slot::Link(at, to) = record::slot_at(archive, owner, i) else {
-            return Offset::Refused(refusal::BAD_OWNER);
+            break;
         };
         if at != 4 && to == kind {
             return Offset::At(at);
         }
         i += 1;
     }
+    Offset::Refused(refusal::BAD_OWNER)
 }
 
 // Where a new record goes: its number and the place of the link to it, or a refusal.

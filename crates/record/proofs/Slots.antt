@@ -4,7 +4,7 @@ use mathlib.Core.List.{List, [], _∷_, List·Memᴰ, List·Memᴰ·head, List·
 use Prim.Native.Nat.{ℕ, zero, suc, _+_, _≤_, _<_}
 use native.Mathlib.Omega.{arith}
 use native.Mathlib.Numerals.{add-one}
-use lib.ListN.{length, drop}
+use lib.ListN.{length, drop, drop-of-length-le}
 use lib.Seq.{drop-nil}
 use Rattle.rules.specs.Links.{Link, link}
 use Rattle.record.specs.declared.Slot.{Slot}
@@ -46,6 +46,9 @@ here ls i {s} {at} {to} e f =
 -- no link is left at i
 pub record Past (ls : List Link) (i : ℕ) : Type 0 where
   pub from : drop i ls ≡ []
+
+pub past-all : (ls : List Link) {most i : ℕ} → length ls ≤ most → most ≤ i → Past ls i
+past-all ls {most} {i} few h = let k : length ls ≤ i = omega arith in record { from = drop-of-length-le ls k }
 
 pub past : (ls : List Link) (i : ℕ) {s : Slot} → s ≡ slotAnswer ls i → s ≡ slot.None → Past ls i
 past ls i {s} e f = record { from = go ls i (sym f ∙ e) }

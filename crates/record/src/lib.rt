@@ -61,6 +61,9 @@ pub fn is_kind(kind: u8) -> bool
 
 // ---- links
 
+// Bytes 4-31 of a record have room for so many.
+pub const MOST_LINKS: u64 = 7;
+
 // A link of a record: the byte where it starts and the kind that it leads to.
 pub enum Slot {
     Link(u64, u8),

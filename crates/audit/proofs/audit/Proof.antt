@@ -52,7 +52,7 @@ slice-aggregate-check-records c = sym marks-long
 
 check-records-requires : tie.Need-check-records-requires
 unfolding noMarks
-check-records-requires c κs = let w = used-within (c .before .before .before .before .before .before .args .archive .now) _ (used-is (c .before .before)) in record { fits = w .1; few = w .2; size = no-marks }
+check-records-requires c κs = let w = used-within (c .before .before .before .before .before .before .args .archive .now) _ (used-is (c .before .before)) in (record { fits = w .1; few = w .2; size = no-marks }, w .0)
 
 returns-2 : tie.Need-returns-2
 unfolding noMarks

@@ -2,7 +2,7 @@
 use mathlib.Core.Path.{_≡_, sym, _∙_, ap}
 use mathlib.Core.Bool.{Bool}
 use mathlib.Core.List.{List}
-use mathlib.Core.Logic.{⊎-elim, inl, inr}
+use mathlib.Core.Logic.{inr}
 use Prim.Native.Nat.{ℕ}
 use borrow.Author.Tests.{not-true, not-false}
 use Rattle.rules.specs.Archive.{kindOf, recordAt}
@@ -43,9 +43,9 @@ is-kind-requires c κs = search needs
 
 returns : tie.Need-returns
 returns c =
-    let a = c .before .before .before .before .before .before .before .args in
-    unknown-done (a .archive .now) (a .used) (a .n) (c .before .before .before .before .if1 .taken)
-    (kind-known (a .archive .now) _ (a .n) (record-part (a .archive .now) (a .n)) (c .before .before .kind-of .ensures) (c .before .is-kind .ensures) ∙ not-true _ (c .if2 .taken))
+    let a = c .before .before .before .before .before .before .args in
+    unknown-done (a .archive .now) (a .used) (a .n) (c .before .before .before .before .before .before .pre .1 .some)
+    (kind-known (a .archive .now) _ (a .n) (record-part (a .archive .now) (a .n)) (c .before .before .kind-of .ensures) (c .before .is-kind .ensures) ∙ not-true _ (c .if1 .taken))
 
 check-links-requires : tie.Need-check-links-requires
 check-links-requires c κs = search needs
@@ -55,12 +55,10 @@ same-length c = search needs
 
 returns-2 : tie.Need-returns-2
 returns-2 c =
-    let a = c .before .before .before .before .before .before .before .args in
+    let s = c .before .before .before .before in
+    let a = s .before .before .before .before .before .before .args in
     record-done (a .archive .now) (a .used) (a .n)
-    (⊎-elim
-    (λ w. inr (kind-known (a .archive .now) _ (a .n) (record-part (a .archive .now) (a .n)) (w .2 .ensures) (w .3 .ensures) ∙ not-false _ (w .4 .left)))
-    (λ w. inl (w .left))
-    (c .before .before .before .before .if1 .came))
+    (inr (kind-known (a .archive .now) _ (a .n) (record-part (a .archive .now) (a .n)) (s .before .before .kind-of .ensures) (s .before .is-kind .ensures) ∙ not-false _ (s .if1 .left)))
     (c .before .before .check-links .ensures)
 
 pub check-record-spec : {M : Type 1} → statement M

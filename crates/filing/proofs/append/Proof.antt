@@ -10,14 +10,14 @@ destination-for-requires c κs = search needs
 enum-known-number : tie.Need-enum-known-number
 enum-known-number c = search needs
 
-enum-known-used : tie.Need-enum-known-used
-enum-known-used c = search needs
+enum-known-free : tie.Need-enum-known-free
+enum-known-free c = search needs
 
 file-requires : tie.Need-file-requires
 file-requires c κs =
     let a = c .before .before .before .before .before .before .before .before .args in
     let p = c .before .before .before .before .destination-for in
-    file-needs (a .archive .now) (a .owner) (a .new .now) (p .result) (p .ensures) _ _ (c .before .before .used .given .1)
+    file-needs (a .archive .now) (a .owner) (a .new .now) (p .result) (p .ensures) _ _ (c .before .before .free .given .1)
 
 same-length : tie.Need-same-length
 same-length c = search needs
@@ -35,7 +35,7 @@ returns-2 : tie.Need-returns-2
 returns-2 c =
     let a = c .before .before .before .before .before .before .before .before .before .before .before .args in
     let p = c .before .before .before .before .before .before .before .destination-for in
-    append-done (a .archive .now) (a .owner) (a .new .now) (p .result) (p .ensures) _ _ _ (c .before .before .before .before .before .used .given .1) (c .before .before .file .ensures)
+    append-done (a .archive .now) (a .owner) (a .new .now) (p .result) (p .ensures) _ _ _ (c .before .before .before .before .before .free .given .1) (c .before .before .file .ensures)
 
 pub append-spec : {M : Type 1} → statement M
 append-spec =
@@ -43,7 +43,7 @@ append-spec =
     (tie.spec
     destination-for-requires
     enum-known-number
-    enum-known-used
+    enum-known-free
     file-requires
     same-length
     returns

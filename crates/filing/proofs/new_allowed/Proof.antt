@@ -9,7 +9,7 @@ use borrow.Author.Tests.{not-true, not-false}
 use Rattle.rules.specs.Links.{isKind, linksOf}
 use Rattle.rules.proofs.Places.{links-within, links-few}
 use Rattle.rules.proofs.Owners.{new-size, new-unknown, new-links}
-use Rattle.record.proofs.Slots.{Here, here, past}
+use Rattle.record.proofs.Slots.{Here, here, past, past-all}
 use Rattle.filing.proofs.Links.{NewFrom, new-none, new-linked, new-on}
 use Rattle.filing.proofs.new_allowed.Statement.{statement}
 use Rattle.filing.proofs.new_allowed.Tie as tie
@@ -21,10 +21,10 @@ use Rattle.record.proofs.link_at.Reads as link-at-reads
 use Rattle.record.proofs.slot_of.Reads as slot-of-reads
 
 abbrev Inv-loop : tie.InvT-loop
-Inv-loop new i₀ i = NewFrom new i × (length new ≡ 32) × (i ≤ 7)
+Inv-loop new i₀ i = NewFrom new i × (length new ≡ 32)
 
 abbrev μ-loop : tie.MeasureT-loop
-μ-loop new i₀ i = 8 - i
+μ-loop new i₀ i = 7 - i
 
 abbrev claims : lts.Claims
 claims = (
@@ -39,7 +39,7 @@ claims = (
 )
 
 slot : (c : lts.After-at claims reads.Pre reads.Post Inv-loop μ-loop)
-    → Here (linksOf (c .before .before .before .before .before .before .before .before .before .args .new .now)) (c .before .before .before .loop .i) (c .at .given .0 .0) (c .at .given .0 .1 .0)
+    → Here (linksOf (c .before .before .before .before .before .before .before .before .before .before .args .new .now)) (c .before .before .before .before .loop .i) (c .at .given .0 .0) (c .at .given .0 .1 .0)
 slot c = here _ _ (c .before .before .slot-of .ensures) (c .at .given .1)
 
 returns : tie.Need-returns Inv-loop μ-loop
@@ -52,15 +52,18 @@ is-kind-requires : tie.Need-is-kind-requires Inv-loop μ-loop
 is-kind-requires c κs = search needs
 
 returns-2 : tie.Need-returns-2 Inv-loop μ-loop
-returns-2 c = sym (new-unknown (c .before .before .before .before .before .args .new .now) (c .before .before .before .if1 .left) (ap isKind (sym (c .before .before .kind-of .ensures)) ∙ sym (c .before .is-kind .ensures) ∙ not-true _ (c .if2 .taken)))
+returns-2 c =
+    let k = c .before .before .kind-of .ensures in
+    sym (new-unknown (c .before .before .before .before .before .args .new .now) (c .before .before .before .if1 .left) (ap isKind (sym k) ∙ sym (c .before .is-kind .ensures) ∙ not-true _ (c .if2 .taken)))
 
 loop-holds : tie.Need-loop-holds Inv-loop μ-loop
 loop-holds c =
     let known = ap isKind (sym (c .before .before .kind-of .ensures)) ∙ sym (c .before .is-kind .ensures) ∙ not-false _ (c .if2 .left) in
-    (record { is = new-links (c .before .before .before .before .before .args .new .now) (c .before .before .before .if1 .left) known }, c .before .before .before .if1 .left, omega arith)
+    let size = c .before .before .before .if1 .left in
+    (record { is = new-links (c .before .before .before .before .before .args .new .now) size known }, size)
 
 slot-of-requires : tie.Need-slot-of-requires Inv-loop μ-loop
-slot-of-requires c κs = c .loop .inv .1
+slot-of-requires c κs = c .before .loop .inv .1
 
 enum-known-at : tie.Need-enum-known-at Inv-loop μ-loop
 enum-known-at c = search needs
@@ -68,27 +71,28 @@ enum-known-at c = search needs
 enum-told : tie.Need-enum-told Inv-loop μ-loop
 enum-told c = search needs
 
-returns-3 : tie.Need-returns-3 Inv-loop μ-loop
-returns-3 c = let s = c .before .before .slot-of in sym (new-none (c .before .before .before .loop .inv .0) (past _ _ (s .ensures) (c .enum-told .given .1)))
-
 link-at-requires : tie.Need-link-at-requires Inv-loop μ-loop
 link-at-requires c κs = let w = links-within _ _ (slot (c .before) .has) in omega arith
 
-returns-4 : tie.Need-returns-4 Inv-loop μ-loop
-returns-4 c = sym (new-linked (c .before .before .before .before .before .before .loop .inv .0) (slot (c .before .before .before)) (λ e. c .if3 .taken (c .before .link-at .ensures .0 ∙ e)))
+returns-3 : tie.Need-returns-3 Inv-loop μ-loop
+returns-3 c = sym (new-linked (c .before .before .before .before .before .before .before .loop .inv .0) (slot (c .before .before .before)) (λ e. c .if3 .taken (c .before .link-at .ensures .0 ∙ e)))
 
 add-i : tie.Need-add-i Inv-loop μ-loop
 add-i c = omega arith
 
 loop-less : tie.Need-loop-less Inv-loop μ-loop
-loop-less c = let h = slot (c .before .before .before) .below in let f = links-few (c .before .before .before .before .before .before .before .before .before .before .before .before .args .new .now) in omega arith
+loop-less c = omega arith
 
 loop-again : tie.Need-loop-again Inv-loop μ-loop
 loop-again c =
-    let l = c .before .before .before .before .before .before .loop in
-    let h = slot (c .before .before .before) in
-    let f = links-few (c .before .before .before .before .before .before .before .before .before .before .before .before .args .new .now) in
-    (new-on (l .inv .0) h (sym (c .before .link-at .ensures .0) ∙ c .if3 .left), l .inv .1, omega (arith, h .below))
+    let l = c .before .before .before .before .before .before .before .loop in
+    (new-on (l .inv .0) (slot (c .before .before .before)) (sym (c .before .link-at .ensures .0) ∙ c .if3 .left), l .inv .1)
+
+returns-4 : tie.Need-returns-4 Inv-loop μ-loop
+returns-4 c = sym (new-none (c .before .loop .inv .0) (past-all _ (links-few _) (c .loop-test .left)))
+
+returns-5 : tie.Need-returns-5 Inv-loop μ-loop
+returns-5 c = sym (new-none (c .before .before .before .before .loop .inv .0) (past _ _ (c .before .before .slot-of .ensures) (c .enum-told .given .1)))
 
 pub new-allowed-spec : {M : Type 1} → statement M
 new-allowed-spec =
@@ -104,9 +108,10 @@ new-allowed-spec =
     slot-of-requires
     enum-known-at
     enum-told
-    returns-3
     link-at-requires
-    returns-4
+    returns-3
     add-i
     loop-less
-    loop-again)
+    loop-again
+    returns-4
+    returns-5)

@@ -9,7 +9,7 @@ use borrow.Author.Tests.{not-true, not-false}
 use Rattle.rules.specs.Links.{linksAt}
 use Rattle.rules.proofs.Places.{at-few}
 use Rattle.rules.proofs.Owners.{offset-unused, offset-among}
-use Rattle.record.proofs.Slots.{Here, here, past}
+use Rattle.record.proofs.Slots.{Here, here, past, past-all}
 use Rattle.filing.proofs.Links.{OffsetFrom, offset-none, offset-is, offset-next, offset-other}
 use Rattle.filing.proofs.offset_for.Statement.{statement}
 use Rattle.filing.proofs.offset_for.Tie as tie
@@ -18,17 +18,17 @@ use Rattle.filing.proofs.offset_for.Lts as lts
 use Rattle.record.proofs.slot_at.Reads as slot-at-reads
 
 abbrev Inv-loop : tie.InvT-loop
-Inv-loop archive used owner kind i₀ i = OffsetFrom archive used owner kind i × (owner < used) × (i ≤ 7)
+Inv-loop archive used owner kind i₀ i = OffsetFrom archive used owner kind i × (owner < used)
 
 abbrev μ-loop : tie.MeasureT-loop
-μ-loop archive used owner kind i₀ i = 8 - i
+μ-loop archive used owner kind i₀ i = 7 - i
 
 abbrev claims : lts.Claims
 claims = (slot-at-reads.Asked, slot-at-reads.Learnt)
 
 slot : (c : lts.After-at claims reads.Pre reads.Post Inv-loop μ-loop)
-    → let a = c .before .before .before .before .before .before .args in
-    Here (linksAt (a .archive .now) (a .owner)) (c .before .before .before .loop .i) (c .at .given .0 .0) (c .at .given .0 .1 .0)
+    → let a = c .before .before .before .before .before .before .before .args in
+    Here (linksAt (a .archive .now) (a .owner)) (c .before .before .before .before .loop .i) (c .at .given .0 .0) (c .at .given .0 .1 .0)
 slot c = here _ _ (c .before .before .slot-at .ensures) (c .at .given .1)
 
 returns : tie.Need-returns Inv-loop μ-loop
@@ -37,7 +37,7 @@ returns c = let a = c .before .before .args in sym (offset-unused (a .archive .n
 loop-holds : tie.Need-loop-holds Inv-loop μ-loop
 loop-holds c =
     let a = c .before .before .args in
-    (record { is = offset-among (a .archive .now) (a .used) (a .owner) (a .kind) (c .if1 .left) }, c .if1 .left, omega arith)
+    (record { is = offset-among (a .archive .now) (a .used) (a .owner) (a .kind) (c .if1 .left) }, c .if1 .left)
 
 slot-at-requires : tie.Need-slot-at-requires Inv-loop μ-loop
 slot-at-requires c κs = omega arith
@@ -49,28 +49,25 @@ enum-told : tie.Need-enum-told Inv-loop μ-loop
 enum-told c = search needs
 
 returns-2 : tie.Need-returns-2 Inv-loop μ-loop
-returns-2 c = sym (offset-none (c .before .before .before .loop .inv .0) (past _ _ (c .before .before .slot-at .ensures) (c .enum-told .given .1)))
-
-returns-3 : tie.Need-returns-3 Inv-loop μ-loop
-returns-3 c = sym (offset-is (c .before .before .before .before .before .before .loop .inv .0) (slot (c .before .before .before)) (c .before .if2 .taken) (c .if3 .taken))
+returns-2 c = sym (offset-is (c .before .before .before .before .before .before .before .loop .inv .0) (slot (c .before .before .before)) (c .before .if2 .taken) (c .if3 .taken))
 
 add-i : tie.Need-add-i Inv-loop μ-loop
 add-i c = omega arith
 
 loop-less : tie.Need-loop-less Inv-loop μ-loop
-loop-less c =
-    let a = c .before .before .before .before .before .before .before .before .args in
-    let h = slot (c .before .before) .below in
-    let f = at-few (a .archive .now) (a .owner) in
-    omega arith
+loop-less c = omega arith
 
 loop-again : tie.Need-loop-again Inv-loop μ-loop
 loop-again c =
-    let a = c .before .before .before .before .before .before .before .before .args in
-    let l = c .before .before .before .before .before .loop in
+    let l = c .before .before .before .before .before .before .loop in
     let h = slot (c .before .before) in
-    let f = at-few (a .archive .now) (a .owner) in
-    (⊎-elim (λ w. offset-other (l .inv .0) h (w .1 .left)) (λ w. offset-next (l .inv .0) h (w .left)) (c .if2 .came), l .inv .1, omega (arith, h .below))
+    (⊎-elim (λ w. offset-other (l .inv .0) h (w .1 .left)) (λ w. offset-next (l .inv .0) h (w .left)) (c .if2 .came), l .inv .1)
+
+returns-3 : tie.Need-returns-3 Inv-loop μ-loop
+returns-3 c = sym (offset-none (c .before .loop .inv .0) (past-all _ (at-few _ _) (c .loop-test .left)))
+
+returns-4 : tie.Need-returns-4 Inv-loop μ-loop
+returns-4 c = sym (offset-none (c .before .before .before .before .loop .inv .0) (past _ _ (c .before .before .slot-at .ensures) (c .enum-told .given .1)))
 
 pub offset-for-spec : {M : Type 1} → statement M
 offset-for-spec =
@@ -84,7 +81,8 @@ offset-for-spec =
     enum-known-at
     enum-told
     returns-2
-    returns-3
     add-i
     loop-less
-    loop-again)
+    loop-again
+    returns-3
+    returns-4)
