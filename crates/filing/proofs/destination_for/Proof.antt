@@ -1,18 +1,16 @@
 -- `filing::destination_for` meets its contract. Each test's fact is stated once, at the state where the code learns it.
-use mathlib.Core.Path.{_≡_, sym, _∙_, ap, subst}
+use mathlib.Core.Path.{_≡_, sym, _∙_, ap}
 use mathlib.Core.Bool.{true}
-use Prim.Native.Nat.{_+_, _*_}
 use borrow.Author.Needs.{needs}
 use borrow.Author.Tests.{not-true, not-false}
 use Rattle.rules.specs.Outcome.{given}
-use Rattle.rules.specs.Archive.{linkAt, usedOf, chain}
-use Rattle.rules.specs.Filing.{newAllowed, offsetFor}
+use Rattle.rules.specs.Archive.{usedOf}
+use Rattle.rules.specs.Filing.{newAllowed}
 use Rattle.rules.proofs.Append.{allowed-new}
-use Rattle.rules.proofs.AppendSteps.{used-within, append-no-head, append-bad-record, append-bad-owner, append-bad-chain, append-full}
-use Rattle.chains.specs.declared.ChainEnd.{ChainEnd}
+use Rattle.rules.proofs.AppendSteps.{used-within, append-no-head, append-bad-record, append-bad-owner}
 use Rattle.filing.specs.Destinations.{offsetOutcome}
 use Rattle.archive.proofs.Laws.{opened, unopened}
-use Rattle.filing.proofs.Destinations.{Ended, chain-says, walk-needs, placed}
+use Rattle.filing.proofs.Destinations.{Tested, walk-needs, chain-refused, chain-full, chain-joined}
 use Rattle.filing.proofs.destination_for.Statement.{statement}
 use Rattle.filing.proofs.destination_for.Tie as tie
 use Rattle.filing.proofs.destination_for.Reads as reads
@@ -38,26 +36,21 @@ claims = (
 )
 
 used-is : (c : lts.After-used claims reads.Pre reads.Post) → usedOf (c .before .before .before .before .before .args .archive .now) ≡ given (c .used .given .0 .0)
-used-is c =
-    let r = c .before .before .read-head in
-    opened (c .before .before .before .before .before .args .archive .now) (r .result) (r .ensures) _ (c .used .given .1) .is
+used-is c = let r = c .before .before .read-head in opened _ (r .result) (r .ensures) _ (c .used .given .1) .is
 
 allowed : (c : lts.Else1 claims reads.Pre reads.Post) → newAllowed (c .before .before .before .before .before .before .before .before .args .new .now) ≡ true
 allowed c = sym (c .before .new-allowed .ensures) ∙ not-false _ (c .if1 .left)
 
-offset-is : (c : lts.After-at claims reads.Pre reads.Post)
-    → offsetFor (c .before .before .before .before .before .before .before .before .before .before .before .before .args .archive .now) (c .before .before .before .before .before .before .before .used .given .0 .0) (c .before .before .before .before .before .before .before .before .before .before .before .before .args .owner) (c .before .before .before .kind-of .result) ≡ given (c .at .given .0 .0)
-offset-is c = sym (c .before .before .offset-for .ensures) ∙ ap offsetOutcome (c .at .given .1)
-
-ended : (c : lts.After-walk-all claims reads.Pre reads.Post) (x : ChainEnd) → c .walk-all .result ≡ x
-    → Ended (32 * (c .before .before .before .before .before .before .before .before .before .before .before .before .before .before .args .owner) + c .before .before .at .given .0 .0)
-    (chain (c .before .before .before .before .before .before .before .before .before .before .before .before .before .before .args .archive .now) (c .before .before .before .before .before .before .before .before .before .used .given .0 .0) (c .before .before .before .before .before .kind-of .result) (c .before .before .before .before .before .before .before .before .before .before .before .before .before .before .args .owner) (linkAt (c .before .before .before .before .before .before .before .before .before .before .before .before .before .before .args .archive .now) (32 * (c .before .before .before .before .before .before .before .before .before .before .before .before .before .before .args .owner) + c .before .before .at .given .0 .0)))
-    x
-ended c x e =
-    let a = c .before .before .before .before .before .before .before .before .before .before .before .before .before .before .args in
-    let first = 32 * (a .owner) + c .before .before .at .given .0 .0 in
-    let o = chain (a .archive .now) (c .before .before .before .before .before .before .before .before .before .used .given .0 .0) (c .before .before .before .before .before .kind-of .result) (a .owner) (linkAt (a .archive .now) first) in
-    subst (Ended first o) e (chain-says (c .walk-all .result) first o (c .walk-all .ensures))
+tested : (c : lts.After-at claims reads.Pre reads.Post)
+    → let u = c .before .before .before .before .before .before .before in
+    let a = u .before .before .before .before .before .args in
+    Tested (a .archive .now) (a .owner) (a .new .now) (u .used .given .0 .0) (c .before .before .before .kind-of .result) (c .at .given .0 .0)
+tested c = record {
+  used-is = used-is (c .before .before .before .before .before .before .before);
+  allowed = allowed (c .before .before .before .before);
+  kind-is = c .before .before .before .kind-of .ensures;
+  offset-is = sym (c .before .before .offset-for .ensures) ∙ ap offsetOutcome (c .at .given .1);
+}
 
 read-head-requires : tie.Need-read-head-requires
 read-head-requires c κs = search needs
@@ -95,16 +88,15 @@ enum-known-number-2 : tie.Need-enum-known-number-2
 enum-known-number-2 c = search needs
 
 returns-3 : tie.Need-returns-3
-returns-3 c =
-    let a = c .before .before .before .before .before .before .before .before .before .before .before .before .before .args in
+returns-3 c = 
+    let s = c .before .before .before .before .before in
+    let a = s .before .before .before .before .before .before .before .before .args in
     let k = c .before .before .before .before .kind-of in
-    append-bad-owner (a .archive .now) (a .owner) (a .new .now) _ (used-is (c .before .before .before .before .before .before .before .before)) (allowed (c .before .before .before .before .before)) (k .result) (k .ensures) _
+    append-bad-owner (a .archive .now) (a .owner) (a .new .now) _ (used-is (s .before .before .before)) (allowed s) (k .result) (k .ensures) _
     (sym (c .before .before .before .offset-for .ensures) ∙ ap offsetOutcome (c .before .number2 .given .1))
 
 walk-all-requires : tie.Need-walk-all-requires
-walk-all-requires c κs =
-    let a = c .before .before .before .before .before .before .before .before .before .before .before .before .before .args in
-    walk-needs (a .archive .now) (a .owner) _ (used-is (c .before .before .before .before .before .before .before .before)) (c .before .before .before .before .kind-of .result) _ (offset-is (c .before))
+walk-all-requires c κs = walk-needs (tested (c .before))
 
 enum-known-last : tie.Need-enum-known-last
 enum-known-last c = search needs
@@ -113,26 +105,13 @@ enum-known-number-3 : tie.Need-enum-known-number-3
 enum-known-number-3 c = search needs
 
 returns-4 : tie.Need-returns-4
-returns-4 c =
-    let a = c .before .before .before .before .before .before .before .before .before .before .before .before .before .before .before .before .before .args in
-    let k = c .before .before .before .before .before .before .before .before .kind-of in
-    append-bad-chain (a .archive .now) (a .owner) (a .new .now) _ (used-is (c .before .before .before .before .before .before .before .before .before .before .before .before)) (allowed (c .before .before .before .before .before .before .before .before .before)) (k .result) (k .ensures) _ (offset-is (c .before .before .before .before .before)) _
-    (ended (c .before .before .before) _ (c .before .number3 .given .1))
+returns-4 c = chain-refused (tested (c .before .before .before .before .before)) (c .before .before .before .walk-all .ensures) (c .before .number3 .given .1)
 
 returns-5 : tie.Need-returns-5
-returns-5 c =
-    let a = c .before .before .before .before .before .before .before .before .before .before .before .before .before .before .before .before .before .before .args in
-    let k = c .before .before .before .before .before .before .before .before .before .kind-of in
-    let w = ended (c .before .before .before .before) _ (c .before .before .last .given .1) in
-    append-full (a .archive .now) (a .owner) (a .new .now) _ (used-is (c .before .before .before .before .before .before .before .before .before .before .before .before .before)) (allowed (c .before .before .before .before .before .before .before .before .before .before)) (k .result) (k .ensures) _ (offset-is (c .before .before .before .before .before .before)) (w .0) (w .1)
-    (c .if2 .taken)
+returns-5 c = chain-full (tested (c .before .before .before .before .before .before)) (c .before .before .before .before .walk-all .ensures) (c .before .before .last .given .1) (c .if2 .taken)
 
 returns-6 : tie.Need-returns-6
-returns-6 c =
-    let a = c .before .before .before .before .before .before .before .before .before .before .before .before .before .before .before .before .before .before .args in
-    let k = c .before .before .before .before .before .before .before .before .before .kind-of in
-    placed (a .archive .now) (a .owner) _ (used-is (c .before .before .before .before .before .before .before .before .before .before .before .before .before)) (a .new .now) (allowed (c .before .before .before .before .before .before .before .before .before .before)) (k .result) (k .ensures) _ (offset-is (c .before .before .before .before .before .before)) _ (c .before .before .last .given .0 .1 .0)
-    (ended (c .before .before .before .before) _ (c .before .before .last .given .1)) (c .if2 .left)
+returns-6 c = chain-joined (tested (c .before .before .before .before .before .before)) (c .before .before .before .before .walk-all .ensures) (c .before .before .last .given .1) (c .if2 .left)
 
 pub destination-for-spec : {M : Type 1} → statement M
 destination-for-spec =
