@@ -57,7 +57,7 @@ slice-aggregate-check-records c = sym marks-long
 
 check-records-requires : tie.Need-check-records-requires
 unfolding noMarks
-check-records-requires c κs = 
+check-records-requires c κs =
     let w = used-within _ _ (used-is (c .before .before)) in
     (record { fits = w .1; few = w .2; size = no-marks }, w .0)
 
@@ -69,7 +69,7 @@ slice-aggregate-all-once : tie.Need-slice-aggregate-all-once
 slice-aggregate-all-once c = sym (c .before .before .before .check-records .kept .1 .1 .0 ∙ marks-long)
 
 all-once-requires : tie.Need-all-once-requires
-all-once-requires c κs = 
+all-once-requires c κs =
     let w = used-within _ _ (used-is (c .before .before .before .before .before .before)) in
     (w .0, marks-enough (w .2) (slice-aggregate-all-once c))
 

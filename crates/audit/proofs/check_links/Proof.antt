@@ -51,7 +51,9 @@ same-length : tie.Need-same-length Inv-loop μ-loop
 same-length c = c .before .before .before .check-link .kept .1 .1 .1 .1 .1 .0 ∙ c .before .before .before .before .before .before .before .before .before .before .loop .inv .1
 
 returns : tie.Need-returns Inv-loop μ-loop
-returns c = links-stop _ (c .before .before .before .before .before .before .before .before .before .before .loop .inv .0) (slot (c .before .before .before .before .before .before)) (c .before .before .before .check-link .ensures) (c .if1 .taken)
+returns c =
+    let at-check-link = c .before .before .before in
+    links-stop _ (at-check-link .before .before .before .before .before .before .before .loop .inv .0) (slot (at-check-link .before .before .before)) (at-check-link .check-link .ensures) (c .if1 .taken)
 
 add-i : tie.Need-add-i Inv-loop μ-loop
 add-i c = omega arith
@@ -61,9 +63,10 @@ loop-less c = omega arith
 
 loop-again : tie.Need-loop-again Inv-loop μ-loop
 loop-again c =
-    let l = c .before .before .before .before .before .before .before .before .before .before .loop in
-    let k = c .before .before .before .check-link in
-    (links-on _ (l .inv .0) (slot (c .before .before .before .before .before .before)) (k .ensures) (c .if1 .left), k .kept .1 .1 .1 .1 .1 .0 ∙ l .inv .1)
+    let at-check-link = c .before .before .before in
+    let l = at-check-link .before .before .before .before .before .before .before .loop in
+    let k = at-check-link .check-link in
+    (links-on _ (l .inv .0) (slot (at-check-link .before .before .before)) (k .ensures) (c .if1 .left), k .kept .1 .1 .1 .1 .1 .0 ∙ l .inv .1)
 
 same-length-2 : tie.Need-same-length-2 Inv-loop μ-loop
 same-length-2 c = c .before .loop .inv .1

@@ -24,7 +24,9 @@ same-length : tie.Need-same-length Inv-loop μ-loop
 same-length c = c .before .before .before .check-links .kept .1 .1 .1 .0
 
 returns : tie.Need-returns Inv-loop μ-loop
-returns c = head-stops (c .before .before .before .before .before .before .before .args .archive .now) (c .before .before .before .before .before .before .before .args .used) (c .before .before .before .check-links .ensures) (c .before .before .before .before .before .before .before .pre .1) (c .if1 .taken)
+returns c =
+    let at-check-links = c .before .before .before in
+    head-stops (at-check-links .before .before .before .before .args .archive .now) (at-check-links .before .before .before .before .args .used) (at-check-links .check-links .ensures) (at-check-links .before .before .before .before .pre .1) (c .if1 .taken)
 
 loop-holds : tie.Need-loop-holds Inv-loop μ-loop
 loop-holds c = ((λ start h. h), omega arith, c .before .before .before .before .before .before .before .pre .1, refl)
@@ -36,14 +38,17 @@ check-record-requires c κs =
     (record { fits = p .0 .fits; few = p .0 .few; size = l .inv .3 ∙ c .before .before .before .before .before .before .check-links .kept .1 .1 .1 .0 ∙ p .0 .size }, record { some = l .inv .1; below = c .before .loop-test .taken })
 
 same-length-2 : tie.Need-same-length-2 Inv-loop μ-loop
-same-length-2 c = c .before .before .before .check-record .kept .1 .1 .1 .0 ∙ c .before .before .before .before .before .before .loop .inv .3 ∙ c .before .before .before .before .before .before .before .before .before .before .check-links .kept .1 .1 .1 .0
+same-length-2 c =
+    let at-check-record = c .before .before .before in
+    at-check-record .check-record .kept .1 .1 .1 .0 ∙ at-check-record .before .before .before .loop .inv .3 ∙ at-check-record .before .before .before .before .before .before .before .check-links .kept .1 .1 .1 .0
 
 returns-2 : tie.Need-returns-2 Inv-loop μ-loop
 returns-2 c =
-    let a = c .before .before .before .before .before .before .before .before .before .before .before .before .before .before .args in
-    let l = c .before .before .before .before .before .before .loop in
-    let first = head-passes (a .archive .now) (a .used) (c .before .before .before .before .before .before .before .before .before .before .check-links .ensures) (c .before .before .before .before .before .before .before .if1 .left) in
-    records-stop (a .archive .now) (a .used) (l .n) (l .inv .0 _ first) (c .before .before .before .check-record .ensures) (a .used) (omega arith) (c .if2 .taken)
+    let at-check-record = c .before .before .before in
+    let a = at-check-record .before .before .before .before .before .before .before .before .before .before .before .args in
+    let l = at-check-record .before .before .before .loop in
+    let first = head-passes (a .archive .now) (a .used) (at-check-record .before .before .before .before .before .before .before .check-links .ensures) (at-check-record .before .before .before .before .if1 .left) in
+    records-stop (a .archive .now) (a .used) (l .n) (l .inv .0 _ first) (at-check-record .check-record .ensures) (a .used) (omega arith) (c .if2 .taken)
 
 add-n : tie.Need-add-n Inv-loop μ-loop
 add-n c = omega arith
@@ -53,9 +58,10 @@ loop-less c = omega arith
 
 loop-again : tie.Need-loop-again Inv-loop μ-loop
 loop-again c =
-    let a = c .before .before .before .before .before .before .before .before .before .before .before .before .before .before .args in
-    let l = c .before .before .before .before .before .before .loop in
-    let r = c .before .before .before .check-record in
+    let at-check-record = c .before .before .before in
+    let a = at-check-record .before .before .before .before .before .before .before .before .before .before .before .args in
+    let l = at-check-record .before .before .before .loop in
+    let r = at-check-record .check-record in
     ((λ start h. records-more (a .archive .now) (a .used) (l .n) (l .inv .0 start h) (r .ensures) (c .if2 .left)), omega arith, omega arith, r .kept .1 .1 .1 .0 ∙ l .inv .3)
 
 same-length-3 : tie.Need-same-length-3 Inv-loop μ-loop

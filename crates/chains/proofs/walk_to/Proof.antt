@@ -49,9 +49,10 @@ returns-2 c =
 
 returns-3 : tie.Need-returns-3 Inv-loop μ-loop
 returns-3 c =
-    let a = c .before .before .before .before .before .before .before .before .args in
-    let l = c .before .before .before .before .before .loop in
-    let f = c .before .before .before .before .follow in
+    let at-follow = c .before .before .before .before in
+    let a = at-follow .before .before .before .before .args in
+    let l = at-follow .before .loop in
+    let f = at-follow .follow in
     let m = met (a .archive .now) (a .used) (a .kind) (l .reached) (l .link) (f .result) (f .ensures) _ (c .before .before .answer .given .1) in
     reach-given (a .place) _ _ (l .links)
     (l .inv .0 ∙ place-met (a .archive .now) (a .used) (a .kind) (l .reached) (l .link) _ (a .missing) (a .place) (l .links) m (omega arith))
@@ -59,9 +60,10 @@ returns-3 c =
 
 link-of-requires : tie.Need-link-of-requires Inv-loop μ-loop
 link-of-requires c κs =
-    let a = c .before .before .before .before .before .before .before .before .args in
-    let l = c .before .before .before .before .before .loop in
-    let f = c .before .before .before .before .follow in
+    let at-follow = c .before .before .before .before in
+    let a = at-follow .before .before .before .before .args in
+    let l = at-follow .before .loop in
+    let f = at-follow .follow in
     let m = met (a .archive .now) (a .used) (a .kind) (l .reached) (l .link) (f .result) (f .ensures) _ (c .before .before .answer .given .1) in
     omega arith
 
@@ -73,10 +75,11 @@ loop-less c = omega arith
 
 loop-again : tie.Need-loop-again Inv-loop μ-loop
 loop-again c =
-    let a = c .before .before .before .before .before .before .before .before .before .args in
-    let l = c .before .before .before .before .before .before .loop in
-    let f = c .before .before .before .before .before .follow in
-    let m = met (a .archive .now) (a .used) (a .kind) (l .reached) (l .link) (f .result) (f .ensures) _ (c .before .before .before .answer .given .1) in (
+    let at-answer = c .before .before .before in
+    let a = at-answer .before .before .before .before .before .before .args in
+    let l = at-answer .before .before .before .loop in
+    let f = at-answer .before .before .follow in
+    let m = met (a .archive .now) (a .used) (a .kind) (l .reached) (l .link) (f .result) (f .ensures) _ (at-answer .answer .given .1) in (
       l .inv .0
           ∙ place-turn (a .archive .now) (a .used) (a .kind) (l .reached) (l .link) _ (c .link-of .result) m (c .link-of .ensures .0)
           (a .missing) (a .place) (l .links) (omega arith),

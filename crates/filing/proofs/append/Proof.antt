@@ -33,9 +33,10 @@ same-length-2 c = search needs
 
 returns-2 : tie.Need-returns-2
 returns-2 c =
-    let a = c .before .before .before .before .before .before .before .before .before .before .before .args in
-    let p = c .before .before .before .before .before .before .before .destination-for in
-    append-done (a .archive .now) (a .owner) (a .new .now) (p .result) (p .ensures) _ _ _ (c .before .before .before .before .before .free .given .1) (c .before .before .file .ensures)
+    let at-free = c .before .before .before .before .before in
+    let a = at-free .before .before .before .before .before .before .args in
+    let p = at-free .before .before .destination-for in
+    append-done (a .archive .now) (a .owner) (a .new .now) (p .result) (p .ensures) _ _ _ (at-free .free .given .1) (c .before .before .file .ensures)
 
 pub append-spec : {M : Type 1} → statement M
 append-spec =

@@ -45,12 +45,14 @@ tested : (c : lts.After-at claims reads.Pre reads.Post)
     → let u = c .before .before .before .before .before .before .before in
     let a = u .before .before .before .before .before .args in
     Tested (a .archive .now) (a .owner) (a .new .now) (u .used .given .0 .0) (c .before .before .before .kind-of .result) (c .at .given .0 .0)
-tested c = record {
-  used-is = used-is (c .before .before .before .before .before .before .before);
-  allowed = allowed (c .before .before .before .before);
-  kind-is = c .before .before .before .kind-of .ensures;
-  offset-is = sym (c .before .before .offset-for .ensures) ∙ ap offsetOutcome (c .at .given .1);
-}
+tested c =
+    let at-before = c .before .before .before in
+    record {
+      used-is = used-is (at-before .before .before .before .before);
+      allowed = allowed (at-before .before);
+      kind-is = at-before .kind-of .ensures;
+      offset-is = sym (c .before .before .offset-for .ensures) ∙ ap offsetOutcome (c .at .given .1);
+    }
 
 read-head-requires : tie.Need-read-head-requires
 read-head-requires c κs = search needs
@@ -88,12 +90,13 @@ enum-known-number-2 : tie.Need-enum-known-number-2
 enum-known-number-2 c = search needs
 
 returns-3 : tie.Need-returns-3
-returns-3 c = 
-    let s = c .before .before .before .before .before in
+returns-3 c =
+    let at-offset-for = c .before .before .before in
+    let s = at-offset-for .before .before in
     let a = s .before .before .before .before .before .before .before .before .args in
-    let k = c .before .before .before .before .kind-of in
+    let k = at-offset-for .before .kind-of in
     append-bad-owner (a .archive .now) (a .owner) (a .new .now) _ (used-is (s .before .before .before)) (allowed s) (k .result) (k .ensures) _
-    (sym (c .before .before .before .offset-for .ensures) ∙ ap offsetOutcome (c .before .number2 .given .1))
+    (sym (at-offset-for .offset-for .ensures) ∙ ap offsetOutcome (c .before .number2 .given .1))
 
 walk-all-requires : tie.Need-walk-all-requires
 walk-all-requires c κs = walk-needs (tested (c .before))

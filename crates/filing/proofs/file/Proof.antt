@@ -28,7 +28,7 @@ same-length c = search needs
 
 returns : tie.Need-returns
 unfolding appendAfter
-returns c = 
+returns c =
     let two = c .before .before .before .before .before .before in
     let one = two .before .before .before .before in
     let a = one .before .before .before .before .args in

@@ -40,7 +40,7 @@ slice-aggregate-put-bytes : tie.Need-slice-aggregate-put-bytes
 slice-aggregate-put-bytes c = search needs
 
 put-bytes-requires : tie.Need-put-bytes-requires
-put-bytes-requires c κs = 
+put-bytes-requires c κs =
     let s = c .before .before .before .before .before .before in
     let zeros = c .before .before .before .before .clear in
     fresh-fits (s .before .before .before .args .archive .now) (whole s) (zeros .last .0) (zeros .kept .0)
@@ -49,7 +49,7 @@ same-length : tie.Need-same-length
 same-length c = search needs
 
 returns-2 : tie.Need-returns-2
-returns-2 c = 
+returns-2 c =
     let s = c .before .before .before .before .before .before .before .before .before in
     let zeros = c .before .before .before .before .before .before .before .clear in
     fresh-done (s .before .before .before .args .archive .now) (whole s) (zeros .last .0) _ (zeros .ensures) (c .before .before .put-bytes .ensures)

@@ -65,8 +65,9 @@ returns-7 c = slot-is (measure-links _ (known (c .before .before .before .before
 
 returns-8 : tie.Need-returns-8
 returns-8 c =
-    slot-none (c .before .before .before .before .before .before .before .before .args .i) (measure-links _ (known (c .before .before .before .before)) (measure (c .before)))
-    (omega (arith, c .before .before .before .if2 .left, c .match2 .rest .0 .1, c .match2 .rest .1))
+    let at-before = c .before .before .before in
+    slot-none (at-before .before .before .before .before .before .args .i) (measure-links _ (known (at-before .before)) (measure (c .before)))
+    (omega (arith, at-before .if2 .left, c .match2 .rest .0 .1, c .match2 .rest .1))
 
 returns-9 : tie.Need-returns-9
 returns-9 c =
