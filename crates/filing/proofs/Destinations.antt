@@ -17,7 +17,8 @@ use Rattle.chains.specs.declared.ChainEnd.the-variants as chainEnd
 use Rattle.chains.specs.Answers.{endAnswer}
 use Rattle.chains.specs.Held.{LinkHeld}
 use Rattle.filing.specs.declared.Destination.the-variants as destination
-use Rattle.filing.specs.Destinations.{Goes}
+use Rattle.filing.specs.declared.Offset.{Offset}
+use Rattle.filing.specs.Destinations.{offsetOutcome, Goes}
 
 -- ---- the answer of a walk to the end of a chain taken apart
 
@@ -34,6 +35,9 @@ chain-says x first o e = subst (Ended first o) (sym e) (go o)
     go (given es) = (es, refl, refl)
 
 -- ---- where the new record goes
+
+pub offset-says : {x y : Offset} {o : Outcome ℕ} → offsetOutcome x ≡ o → x ≡ y → o ≡ offsetOutcome y
+offset-says e f = sym e ∙ ap offsetOutcome f
 
 -- what the tests before the walk have shown
 pub record Tested (archive : List ℕ) (owner : ℕ) (new : List ℕ) (used kind offset : ℕ) : Type 0 where

@@ -1,20 +1,18 @@
 -- What each answer of fresh and append is, over plain variables.
-use mathlib.Core.Path.{_≡_, refl, sym, _∙_, ap, subst}
-use mathlib.Core.Bool.{Bool, true, false, cond}
+use mathlib.Core.Path.{_≡_, sym, _∙_, ap, subst}
+use mathlib.Core.Bool.{true, false}
 use mathlib.Core.List.{List}
-use Prim.Native.Nat.{ℕ, _+_, _*_, _≤_, _<_}
+use Prim.Native.Nat.{ℕ, _+_, _≤_}
 use native.Mathlib.Omega.{arith}
 use lib.ListN.{length, replicate}
-use Rattle.rules.specs.Outcome.{refused, given, _>>_, require, numberOf}
-use Rattle.rules.specs.Refusals.{notArchive, notNamedOnce}
-use Rattle.rules.specs.Archive.{isWhole, usedOf}
+use Rattle.rules.specs.Outcome.{_>>_, require}
+use Rattle.rules.specs.Refusals.{notArchive}
+use Rattle.rules.specs.Archive.{isWhole}
 use Rattle.rules.specs.Encoding.{put}
 use Rattle.rules.specs.Filing.{fresh, appendAfter}
-use Rattle.rules.specs.Links.{linkPlaces}
-use Rattle.rules.specs.Promises.{Freshens, Appends, Audits}
+use Rattle.rules.specs.Promises.{Freshens, Appends}
 use Rattle.rules.proofs.Writes.{freshHead, fresh-written}
 use Rattle.rules.proofs.Sound.{whole-length}
-use Rattle.rules.proofs.AppendSteps.{used-within}
 use Rattle.filing.specs.declared.Destination.{Destination}
 use Rattle.filing.specs.declared.Destination.the-variants as destination
 use Rattle.filing.specs.Destinations.{HasRoom, Goes}

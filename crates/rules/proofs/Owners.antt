@@ -61,9 +61,9 @@ owned-of r = go (eqb (kindOf r) plantKind) refl (eqb (kindOf r) measureKind) ref
         none true = refl
         none false = refl
 
-pub owned-kept : (archive : List ℕ) (n : ℕ) → keep isOwned (linksAt archive n) ≡ ownedAt archive n
+pub owned-are : (archive : List ℕ) (n : ℕ) → keep isOwned (linksAt archive n) ≡ ownedAt archive n
 unfolding linksAt ownedAt
-owned-kept archive n = go (eqb n 0)
+owned-are archive n = go (eqb n 0)
   where
     go : (t : Bool) → keep isOwned (cond t headLinks (linksOf (recordAt archive n))) ≡ cond t headLinks (ownedBy (recordAt archive n))
     go true = refl
@@ -92,4 +92,4 @@ module _ (archive : List ℕ) (used owner kind : ℕ) where
 
   pub offset-among : owner < used → offsetFor archive used owner kind ≡ offsetIn (keep isOwned (linksAt archive owner)) kind
   unfolding offsetFor _>>_ require
-  offset-among h = rw (lt-ltb owner used h, owned-kept archive owner)
+  offset-among h = rw (lt-ltb owner used h, owned-are archive owner)

@@ -48,9 +48,9 @@ owned-linked r l m = go (eqb (kindOf r) 1) refl (eqb (kindOf r) 3) refl
     go false e true f = known (ap isKind (eqb-true (kindOf r) 3 f))
     go false e false f = absurd (List·Memᴰ·not-nil (rw (e, f) at m))
 
--- the links of a record are decided by its first four bytes
+-- the links of a record are decided by bytes 0 to 2
 pub record SameStart (r s : List ℕ) : Type 0 where
-  pub same : (i : ℕ) → i < 4 → byteAt r i ≡ byteAt s i
+  pub same : (i : ℕ) → i < 3 → byteAt r i ≡ byteAt s i
 
 pub owned-same : (r s : List ℕ) → SameStart r s → ownedBy r ≡ ownedBy s
 unfolding ownedBy

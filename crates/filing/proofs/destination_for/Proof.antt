@@ -1,5 +1,5 @@
 -- `filing::destination_for` meets its contract. Each test's fact is stated once, at the state where the code learns it.
-use mathlib.Core.Path.{_≡_, sym, _∙_, ap}
+use mathlib.Core.Path.{_≡_, sym, _∙_}
 use mathlib.Core.Bool.{true}
 use borrow.Author.Needs.{needs}
 use borrow.Author.Tests.{not-true, not-false}
@@ -8,9 +8,8 @@ use Rattle.rules.specs.Archive.{usedOf}
 use Rattle.rules.specs.Filing.{newAllowed}
 use Rattle.rules.proofs.Append.{allowed-new}
 use Rattle.rules.proofs.AppendSteps.{used-within, append-no-head, append-bad-record, append-bad-owner}
-use Rattle.filing.specs.Destinations.{offsetOutcome}
 use Rattle.archive.proofs.Laws.{opened, unopened}
-use Rattle.filing.proofs.Destinations.{Tested, walk-needs, chain-refused, chain-full, chain-joined}
+use Rattle.filing.proofs.Destinations.{offset-says, Tested, walk-needs, chain-refused, chain-full, chain-joined}
 use Rattle.filing.proofs.destination_for.Statement.{statement}
 use Rattle.filing.proofs.destination_for.Tie as tie
 use Rattle.filing.proofs.destination_for.Reads as reads
@@ -51,7 +50,7 @@ tested c =
       used-is = used-is (at-before .before .before .before .before);
       allowed = allowed (at-before .before);
       kind-is = at-before .kind-of .ensures;
-      offset-is = sym (c .before .before .offset-for .ensures) ∙ ap offsetOutcome (c .at .given .1);
+      offset-is = offset-says (c .before .before .offset-for .ensures) (c .at .given .1);
     }
 
 read-head-requires : tie.Need-read-head-requires
@@ -96,7 +95,7 @@ returns-3 c =
     let a = s .before .before .before .before .before .before .before .before .args in
     let k = at-offset-for .before .kind-of in
     append-bad-owner (a .archive .now) (a .owner) (a .new .now) _ (used-is (s .before .before .before)) (allowed s) (k .result) (k .ensures) _
-    (sym (at-offset-for .offset-for .ensures) ∙ ap offsetOutcome (c .before .number2 .given .1))
+    (offset-says (at-offset-for .offset-for .ensures) (c .before .number2 .given .1))
 
 walk-all-requires : tie.Need-walk-all-requires
 walk-all-requires c κs = walk-needs (tested (c .before))

@@ -1,11 +1,9 @@
 -- `filing::offset_for` meets its contract.
 use mathlib.Core.Path.{sym}
 use mathlib.Core.Logic.{⊎-elim}
-use Prim.Native.Nat.{_-_, _≤_, _<_}
+use Prim.Native.Nat.{_-_, _<_}
 use native.Mathlib.Omega.{arith}
-use lib.ListN.{length}
 use borrow.Author.Needs.{needs}
-use borrow.Author.Tests.{not-true, not-false}
 use Rattle.rules.specs.Links.{linksAt}
 use Rattle.rules.proofs.Places.{at-few}
 use Rattle.rules.proofs.Owners.{offset-unused, offset-among}
