@@ -1,20 +1,15 @@
 -- What each answer of audit is, over plain variables.
-use mathlib.Core.Path.{_≡_, refl, sym, _∙_, ap, subst}
+use mathlib.Core.Path.{_≡_, refl, sym, _∙_, ap}
 use mathlib.Core.Bool.{Bool, true, false, cond}
 use mathlib.Core.List.{List}
-use Prim.Native.Nat.{ℕ, _+_, _*_, _≤_, _<_}
+use Prim.Native.Nat.{ℕ}
 use native.Mathlib.Omega.{arith}
-use lib.ListN.{length, replicate}
-use Rattle.rules.specs.Outcome.{refused, given, _>>_, require, numberOf}
-use Rattle.rules.specs.Refusals.{notArchive, notNamedOnce}
-use Rattle.rules.specs.Archive.{isWhole, usedOf}
-use Rattle.rules.specs.Encoding.{put}
-use Rattle.rules.specs.Filing.{fresh, appendAfter}
+use Rattle.rules.specs.Outcome.{refused, given, require, numberOf}
+use Rattle.rules.specs.Refusals.{notNamedOnce}
+use Rattle.rules.specs.Archive.{usedOf}
 use Rattle.rules.specs.Links.{linkPlaces}
 use Rattle.rules.specs.Audit.{recordsChecked, namedOnce}
-use Rattle.rules.specs.Promises.{Freshens, Appends, Audits}
-use Rattle.rules.proofs.Writes.{freshHead, fresh-written}
-use Rattle.rules.proofs.Sound.{whole-length}
+use Rattle.rules.specs.Promises.{Audits}
 use Rattle.rules.proofs.AppendSteps.{used-within}
 use Rattle.rules.proofs.AuditSteps.{audit-no-head, audit-stops, audit-ends}
 use Rattle.audit.specs.Marks.{noMarks, markedOnce, Checked}

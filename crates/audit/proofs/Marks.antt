@@ -1,29 +1,31 @@
 -- What each check of audit answers, over plain variables: checks one after another, links, records, and the table of marks.
 use mathlib.Core.Path.{_≡_, refl, sym, _∙_, ap, subst}
 use mathlib.Core.Bool.{Bool, true, false, cond, _&&_, _||_, and-false, or-true}
-use mathlib.Core.List.{List, [], _∷_, _++_, map}
+use mathlib.Core.List.{List, [], _∷_, _++_}
+use mathlib.Core.Logic.{_⊎_, inl}
 use Prim.Native.Nat.{ℕ, zero, suc, _+_, _*_, _≤_, _<_}
 use native.Mathlib.Omega.{arith}
 use native.Mathlib.Numerals.{add-one}
 use lib.Dec.{eqb}
-use lib.ListN.{length, getD, set, replicate, length-set, length-replicate, getD-replicate}
+use lib.ListN.{length, drop, getD, set, replicate, length-set, length-replicate, getD-replicate}
 use lib.Seq.{getD-set-same, getD-set-other, set-getD}
 use borrow.Author.Tests.{eq-eqb, ne-eqb, eqb-true, eqb-false, lt-ltb, le-ltb}
 use Rattle.rules.specs.Outcome.{Outcome, refused, given, _>>_, numberOf}
 use Rattle.rules.specs.Numbers.{keep}
-use Rattle.rules.specs.Archive.{linkAt, kindOf, recordAt, plantKind, Entry, follow}
-use Rattle.rules.specs.Links.{Link, link, isKind, ownedBy, linksAt, standsAt, linkPlaces, namers}
-use Rattle.rules.specs.Audit.{linkChecked, linksChecked, recordChecked, recordsChecked, namedOnce}
+use Rattle.rules.specs.Archive.{linkAt, kindOf, recordAt, Entry, follow}
+use Rattle.rules.specs.Links.{link, isKind, linksAt, standsAt, linkPlaces, namers}
+use Rattle.rules.specs.Audit.{linkChecked, recordChecked, namedOnce}
 use Rattle.rules.specs.Refusals.{wrongKind}
 use Rattle.rules.proofs.Bytes.{link-of}
 use Rattle.rules.proofs.Runs.{follow-says}
-use Rattle.rules.proofs.AuditSteps.{follow-number, link-zero, link-stops, link-leads, head-checked, head-links, unknown-checked, known-checked, known-links}
+use Rattle.rules.proofs.AuditSteps.{follow-number, link-zero, link-stops, link-leads, unknown-checked, links-checked}
 use Rattle.rules.proofs.Sound.{fine}
+use Rattle.record.proofs.Slots.{Here, Past}
 use Rattle.chains.proofs.Laws.{NoAt}
 use Rattle.chains.specs.declared.Link as answer
 use Rattle.chains.specs.declared.Link.the-variants as answers
 use Rattle.chains.specs.Answers.{linkAnswer, refusalOf}
-use Rattle.audit.specs.Marks.{capped, marked, tally, noMarks, markedOnce, Checked}
+use Rattle.audit.specs.Marks.{capped, marked, tally, noMarks, markedOnce, Checked, LinkChecked, LinksChecked, RecordChecked, RecordsChecked}
 
 -- ---- checks one after another
 
@@ -71,19 +73,7 @@ module _ (archive : List ℕ) where
   pub checked-as : (o k : Outcome (Unit {0})) (ps qs marks later : List ℕ) (n : ℕ) → o ≡ k → ps ≡ qs → Checked archive k qs marks later n → Checked archive o ps marks later n
   checked-as o k ps qs marks later n e f c = subst (λ x. Checked archive x ps marks later n) (sym e) (subst (λ (l : List ℕ). Checked archive k l marks later n) (sym f) c)
 
-  pub checked-last : {o : Outcome (Unit {0})} {ps marks later : List ℕ} {n : ℕ} → Checked archive o ps marks later n → Checked archive (o >> fine) ps marks later n
-  unfolding _>>_
-  checked-last {o} {ps} {marks} {later} {n} c = checked-as (o >> fine) o ps ps marks later n (same o) refl c
-    where
-      same : (o : Outcome (Unit {0})) → (o >> fine) ≡ o
-      same (refused k) = refl
-      same (given x) = refl
-
   -- ---- a link
-
-  -- the check of one link of record n
-  abbrev pub LinkChecked : ℕ → ℕ → ℕ → ℕ → List ℕ → List ℕ → ℕ → Type 0
-  LinkChecked used n at to marks later r = Checked archive (linkChecked archive used n (link at to)) (standsAt n (link at to) ∷ []) marks later r
 
   module _ (used n at to : ℕ) (room : at + 4 ≤ 32) (v : ℕ) (read : v ≡ linkAt (recordAt archive n) at) (x : answer.Link) (says : x ≡ linkAnswer v (follow archive used to n v)) where
     stands : v ≡ linkAt archive (32 * n + at)
@@ -116,12 +106,12 @@ module _ (archive : List ℕ) where
             number a r = cc
 
     -- zero, or refused
-    pub link-answered : (marks : List ℕ) (r : ℕ) → r ≡ refusalOf x 0 → NoAt x → LinkChecked used n at to marks marks r
+    pub link-answered : (marks : List ℕ) (r : ℕ) → r ≡ refusalOf x 0 → NoAt x → LinkChecked archive used n (link at to) marks marks r
     unfolding tally
     link-answered marks r number none =
-        subst (LinkChecked used n at to marks marks) (sym (number ∙ ap (λ a. refusalOf a 0) says)) (go v (follow archive used to n v) refl refl says)
+        subst (LinkChecked archive used n (link at to) marks marks) (sym (number ∙ ap (λ a. refusalOf a 0) says)) (go v (follow archive used to n v) refl refl says)
       where
-        go : (w : ℕ) (o : Outcome Entry) → v ≡ w → follow archive used to n v ≡ o → x ≡ linkAnswer w o → LinkChecked used n at to marks marks (refusalOf (linkAnswer w o) 0)
+        go : (w : ℕ) (o : Outcome Entry) → v ≡ w → follow archive used to n v ≡ o → x ≡ linkAnswer w o → LinkChecked archive used n (link at to) marks marks (refusalOf (linkAnswer w o) 0)
         go zero o i f q =
             let z : linkAt archive (32 * n + at) ≡ 0 = sym stands ∙ i in
             record {
@@ -136,7 +126,7 @@ module _ (archive : List ℕ) where
         go (suc w) (given k) i f q = absurd (subst NoAt q none)
 
     -- one that leads to a record, which is marked
-    pub link-marked : (marks later : List ℕ) (m : ℕ) → x ≡ answers.At m → later ≡ marked marks m → LinkChecked used n at to marks later 0
+    pub link-marked : (marks later : List ℕ) (m : ℕ) → x ≡ answers.At m → later ≡ marked marks m → LinkChecked archive used n (link at to) marks later 0
     unfolding tally
     link-marked marks later m e f =
         let l = led m e in
@@ -146,69 +136,68 @@ module _ (archive : List ℕ) where
           marks-are = λ z. f ∙ sym (rw (l .is, ne-eqb m 0 (l .some)));
         }
 
+  -- ---- the links of a record
+
+  -- what is left from link i on completes the check
+  pub record LinksLeft (used n : ℕ) (start : List ℕ) (i : ℕ) (marks : List ℕ) : Type 0 where
+    pub then : (later : List ℕ) (r : ℕ) → LinksChecked archive used n (drop i (linksAt archive n)) marks later r → LinksChecked archive used n (linksAt archive n) start later r
+
+  module _ {used n : ℕ} {start : List ℕ} where
+    pub links-all : LinksLeft used n start 0 start
+    links-all = record { then = λ later r c. c }
+
+    module _ {i : ℕ} {marks : List ℕ} (left : LinksLeft used n start i marks) where
+      pub links-none : Past (linksAt archive n) i → LinksChecked archive used n (linksAt archive n) start marks 0
+      links-none p = left .then marks 0 (rw (p .from) (checked-none marks))
+
+      module _ {at to : ℕ} {later : List ℕ} {r : ℕ} (h : Here (linksAt archive n) i at to) (c : LinkChecked archive used n (link at to) marks later r) where
+        pub links-stop : (r ≡ 0 → ⊥) → LinksChecked archive used n (linksAt archive n) start later r
+        links-stop some = left .then later r (rw (h .from) (then-stops c _ some))
+
+        pub links-on : r ≡ 0 → LinksLeft used n start (i + 1) later
+        links-on z = record { then = λ last s k. left .then last s (rw (h .from) (then-goes c z k)) }
+
   -- ---- a record
 
-  module _ (used n : ℕ) (marks later : List ℕ) where
-    -- the check of record n
-    abbrev pub RecordChecked : ℕ → Type 0
-    RecordChecked r = Checked archive (recordChecked archive used n) (map (standsAt n) (linksAt archive n)) marks later r
+  module _ (used n : ℕ) {marks later : List ℕ} where
+    pub unknown-done : 1 ≤ n → isKind (kindOf (recordAt archive n)) ≡ false → RecordChecked archive used n marks later wrongKind
+    unknown-done some k = checked-refused _ _ marks later wrongKind (unknown-checked archive used n (λ z. omega arith) k) (λ z. omega arith)
 
-    pub head-done : (r : ℕ) → n ≡ 0 → LinkChecked used 0 8 plantKind marks later r → RecordChecked r
-    head-done r e c =
-        checked-as (recordChecked archive used n) (linkChecked archive used 0 (link 8 plantKind) >> fine) (map (standsAt n) (linksAt archive n)) (standsAt 0 (link 8 plantKind) ∷ []) marks later r
-        (ap (recordChecked archive used) e ∙ head-checked archive used)
-        (ap (λ (m : ℕ). map (standsAt m) (linksAt archive m)) e ∙ ap (map (standsAt 0)) (head-links archive used))
-        (checked-last c)
-
-    module _ (some : n ≡ 0 → ⊥) (kind : ℕ) (is : kind ≡ kindOf (recordAt archive n)) where
-      pub unknown-done : isKind kind ≡ false → RecordChecked wrongKind
-      unknown-done k =
-          checked-refused (recordChecked archive used n) (map (standsAt n) (linksAt archive n)) marks later wrongKind
-          (unknown-checked archive used n some (ap isKind (sym is) ∙ k)) (λ z. omega arith)
-
-      -- the next link, then the owned ones
-      pub known-done : (r : ℕ) → isKind kind ≡ true → (ls : List Link) → ls ≡ ownedBy (recordAt archive n)
-          → Checked archive (linkChecked archive used n (link 4 kind) >> linksChecked archive used n ls) (standsAt n (link 4 kind) ∷ map (standsAt n) ls) marks later r
-          → RecordChecked r
-      known-done r k ls e c =
-          let known : isKind (kindOf (recordAt archive n)) ≡ true = ap isKind (sym is) ∙ k in
-          checked-as (recordChecked archive used n) (linkChecked archive used n (link 4 kind) >> linksChecked archive used n ls)
-          (map (standsAt n) (linksAt archive n)) (standsAt n (link 4 kind) ∷ map (standsAt n) ls) marks later r
-          (rw (is, e) (known-checked archive used n some known))
-          (rw e (ap (map (standsAt n)) (known-links archive used n some known)))
-          c
+    pub record-done : {r : ℕ} → (n ≡ 0) ⊎ (isKind (kindOf (recordAt archive n)) ≡ true) → LinksChecked archive used n (linksAt archive n) marks later r
+        → RecordChecked archive used n marks later r
+    record-done k c = checked-as _ _ _ _ marks later _ (links-checked archive used n k) refl c
 
   -- ---- all records
 
-  module _ (used : ℕ) (start : List ℕ) where
-    -- the first so many records passed
-    abbrev pub Passed : ℕ → List ℕ → Type 0
-    Passed n marks = Checked archive (recordsChecked archive used n) (linkPlaces archive n) start marks 0
-
-    pub records-none : Passed 0 start
+  module _ (used : ℕ) {start : List ℕ} where
+    none-checked : RecordsChecked archive used 0 start start 0
     unfolding linkPlaces
-    records-none = checked-none start
+    none-checked = checked-none start
 
-    pub records-end : (n : ℕ) (marks : List ℕ) → n ≡ used → Passed n marks → Passed used marks
-    records-end n marks e p = subst (λ (m : ℕ). Passed m marks) e p
-
-    module _ (n : ℕ) (marks later : List ℕ) (r : ℕ) (before : Passed n marks) (here : RecordChecked used n marks later r) where
-      one-more : Checked archive (recordsChecked archive used (suc n)) (linkPlaces archive (suc n)) start later r
+    module _ (n : ℕ) {marks later : List ℕ} {r : ℕ} (before : RecordsChecked archive used n start marks 0) (here : RecordChecked archive used n marks later r) where
+      one-more : RecordsChecked archive used (suc n) start later r
       unfolding linkPlaces
       one-more = then-goes before refl here
 
-      pub records-more : r ≡ 0 → Passed (n + 1) later
-      records-more z = rw (add-one n) (subst (λ (m : ℕ). Checked archive (recordsChecked archive used (suc n)) (linkPlaces archive (suc n)) start later m) z one-more)
+      pub records-more : r ≡ 0 → RecordsChecked archive used (n + 1) start later 0
+      records-more z = rw (add-one n) (subst (RecordsChecked archive used (suc n) start later) z one-more)
 
       -- a refused record refuses all
-      pub records-stop : (m : ℕ) → n < m → (r ≡ 0 → ⊥) → Checked archive (recordsChecked archive used m) (linkPlaces archive m) start later r
+      pub records-stop : (m : ℕ) → n < m → (r ≡ 0 → ⊥) → RecordsChecked archive used m start later r
       records-stop zero h s = absurd (omega arith)
       records-stop (suc m) h s = go (eqb n m) refl (λ k. records-stop m k s)
         where
-          go : (t : Bool) → eqb n m ≡ t → (n < m → Checked archive (recordsChecked archive used m) (linkPlaces archive m) start later r)
-              → Checked archive (recordsChecked archive used (suc m)) (linkPlaces archive (suc m)) start later r
-          go true e f = subst (λ (k : ℕ). Checked archive (recordsChecked archive used (suc k)) (linkPlaces archive (suc k)) start later r) (eqb-true n m e) one-more
+          go : (t : Bool) → eqb n m ≡ t → (n < m → RecordsChecked archive used m start later r) → RecordsChecked archive used (suc m) start later r
+          go true e f = subst (λ (k : ℕ). RecordsChecked archive used (suc k) start later r) (eqb-true n m e) one-more
           go false e f = then-stops (f (omega (arith, eqb-false n m e))) (recordChecked archive used m) s
+
+    -- the head, which has no kind, comes first
+    module _ {later : List ℕ} {r : ℕ} (head : LinksChecked archive used 0 (linksAt archive 0) start later r) where
+      pub head-passes : r ≡ 0 → RecordsChecked archive used 1 start later 0
+      head-passes z = records-more 0 none-checked (record-done used 0 (inl refl) head) z
+
+      pub head-stops : 1 ≤ used → (r ≡ 0 → ⊥) → RecordsChecked archive used used start later r
+      head-stops h s = records-stop 0 none-checked (record-done used 0 (inl refl) head) used (omega arith) s
 
 -- ---- marks
 

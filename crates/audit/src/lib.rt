@@ -1,16 +1,14 @@
 // Audit (document 01, 'Calls on the archive'): the kind and the links of every record, and a table of how often each record is named.
 ghost use mathlib.Core.Path.{_≡_};
-ghost use mathlib.Core.List.{map, _∷_, []};
-ghost use Prim.Native.Nat.{_+_, _*_, _≤_, _<_};
+ghost use Prim.Native.Nat.{_≤_, _<_};
 ghost use lib.ListN.{length};
-ghost use Rattle.rules.specs.Links.{link, linksAt, standsAt, linkPlaces};
-ghost use Rattle.rules.specs.Audit.{linkChecked, recordChecked, recordsChecked};
-ghost use Rattle.audit.specs.Marks.{marked, markedOnce, Checked};
+ghost use Rattle.rules.specs.Links.{link, linksAt};
 ghost use Rattle.rules.specs.Promises.{Audits};
+ghost use Rattle.chains.specs.Held.{LinkHeld};
+ghost use Rattle.audit.specs.Marks.{marked, markedOnce, LinkChecked, LinksChecked, RecordChecked, RecordsChecked, Tabled, InChains};
 use archive::Head;
 use chains::Link;
-use record::Owned;
-use rules::kind;
+use record::Slot;
 use rules::refusal;
 
 // ---- the table of marks
@@ -29,8 +27,8 @@ fn mark(marks: &mut [u8], n: u64)
 
 // A link of record n, by its byte and the kind that it leads to: 2, 3. What it names is marked.
 fn check_link(archive: &[u8], used: u64, n: u64, at: usize, to: u8, marks: &mut [u8]) -> u64
-    requires { ⌜ (32 * used ≤ length (now archive)) × (n < used) × (at + 4 ≤ 32) × (used < 65536) × (length (now marks) ≡ 65536) ⌝ }
-    ensures { λ r. ⌜ Checked (now (archive .entry)) (linkChecked (now (archive .entry)) used n (link at to)) (standsAt n (link at to) ∷ []) (now (marks .entry)) (now (marks .exit)) r ⌝ }
+    requires { ⌜ LinkHeld (now archive) used n at × (length (now marks) ≡ 65536) ⌝ }
+    ensures { λ r. ⌜ LinkChecked (now (archive .entry)) used n (link at to) (now (marks .entry)) (now (marks .exit)) r ⌝ }
 {
     let answer = chains::follow(archive, used, to, n, record::link_of(archive, n, at));
     let Link::At(named) = answer else {
@@ -40,40 +38,47 @@ fn check_link(archive: &[u8], used: u64, n: u64, at: usize, to: u8, marks: &mut 
     0
 }
 
-// The kind of record n, then its links in byte order; the head has one link and no kind.
-fn check_record(archive: &[u8], used: u64, n: u64, marks: &mut [u8]) -> u64
-    requires { ⌜ (32 * used ≤ length (now archive)) × (n < used) × (used < 65536) × (length (now marks) ≡ 65536) ⌝ }
-    ensures { λ r. ⌜ Checked (now (archive .entry)) (recordChecked (now (archive .entry)) used n) (map (standsAt n) (linksAt (now (archive .entry)) n)) (now (marks .entry)) (now (marks .exit)) r ⌝ }
+// The links of record n in byte order.
+fn check_links(archive: &[u8], used: u64, n: u64, marks: &mut [u8]) -> u64
+    requires { ⌜ Tabled (now archive) used (now marks) × (n < used) ⌝ }
+    ensures { λ r. let a = now (archive .entry) in ⌜ LinksChecked a used n (linksAt a n) (now (marks .entry)) (now (marks .exit)) r ⌝ }
 {
-    if n == 0 {
-        return check_link(archive, used, 0, 8, kind::PLANT, marks);
+    let mut i: u64 = 0;
+    while i < record::MOST_LINKS {
+        let Slot::Link(at, to) = record::slot_at(archive, n, i) else {
+            break;
+        };
+        let refused = check_link(archive, used, n, at as usize, to, marks);
+        if refused != 0 {
+            return refused;
+        }
+        i += 1;
     }
-    let i = n as usize;
-    let r = &archive[32 * i..32 * i + 32];
-    let kind = record::kind_of(r);
-    if !record::is_kind(kind) {
-        return refusal::WRONG_KIND;
-    }
-    let next = check_link(archive, used, n, 4, kind, marks);
-    if next != 0 {
-        return next;
-    }
-    let Owned::Two(first, second) = record::owned_by(r) else {
-        return 0;
-    };
-    let number = check_link(archive, used, n, 8, first, marks);
-    if number != 0 {
-        return number;
-    }
-    check_link(archive, used, n, 12, second, marks)
+    0
 }
 
-// All used records by number.
-fn check_records(archive: &[u8], used: u64, marks: &mut [u8]) -> u64
-    requires { ⌜ (32 * used ≤ length (now archive)) × (used < 65536) × (length (now marks) ≡ 65536) ⌝ }
-    ensures { λ r. ⌜ Checked (now (archive .entry)) (recordsChecked (now (archive .entry)) used used) (linkPlaces (now (archive .entry)) used) (now (marks .entry)) (now (marks .exit)) r ⌝ }
+// The kind of record n, which isn't the head, then its links.
+fn check_record(archive: &[u8], used: u64, n: u64, marks: &mut [u8]) -> u64
+    requires { ⌜ Tabled (now archive) used (now marks) × InChains used n ⌝ }
+    ensures { λ r. ⌜ RecordChecked (now (archive .entry)) used n (now (marks .entry)) (now (marks .exit)) r ⌝ }
 {
-    let mut n: u64 = 0;
+    let i = n as usize;
+    if !record::is_kind(record::kind_of(&archive[32 * i..32 * i + 32])) {
+        return refusal::WRONG_KIND;
+    }
+    check_links(archive, used, n, marks)
+}
+
+// The head's link, then each used record by number.
+fn check_records(archive: &[u8], used: u64, marks: &mut [u8]) -> u64
+    requires { ⌜ Tabled (now archive) used (now marks) × (1 ≤ used) ⌝ }
+    ensures { λ r. ⌜ RecordsChecked (now (archive .entry)) used used (now (marks .entry)) (now (marks .exit)) r ⌝ }
+{
+    let head = check_links(archive, used, 0, marks);
+    if head != 0 {
+        return head;
+    }
+    let mut n: u64 = 1;
     while n < used {
         let number = check_record(archive, used, n, marks);
         if number != 0 {

@@ -1,22 +1,20 @@
 -- What each answer of the code is, and what it says, over plain variables.
 use mathlib.Core.Path.{_≡_, refl, sym, _∙_, ap}
-use mathlib.Core.List.{List, _∷_}
+use mathlib.Core.List.{List, [], _∷_}
 use mathlib.Core.Logic.{_⊎_, inl, inr}
-use Prim.Native.Nat.{ℕ, zero, suc, _+_, _*_, _-_, _≤_, _<_}
+use Prim.Native.Nat.{ℕ, zero, suc, _+_, _*_, _-_, _<_}
 use native.Mathlib.Omega.{arith}
 use lib.ListN.{length}
 use denote.Enum.Declared.{tagOf, declared}
 use Rattle.rules.specs.Outcome.{Outcome, refused, given, _>>=_}
-use Rattle.rules.specs.Archive.{linkAt, nextOf, recordAt, Entry, follow, atPlace, chain, entryAt}
+use Rattle.rules.specs.Archive.{nextOf, recordAt, Entry, follow, atPlace, chain, entryAt}
 use Rattle.rules.specs.Filing.{lastPlace}
-use Rattle.rules.proofs.Bytes.{link-of}
-use Rattle.rules.proofs.Chains.{chain-ends}
+use Rattle.rules.proofs.Folds.{gathered, gatheredFrom}
 use Rattle.rules.proofs.Runs.{follow-says}
 use Rattle.rules.proofs.Walks.{chain-on, chain-refused, place-last, place-on, place-missing, place-refused}
 use Rattle.chains.specs.declared.Link.{Link}
 use Rattle.chains.specs.declared.Link.the-variants as link
 use Rattle.chains.specs.declared.Reach.the-variants as reach
-use Rattle.chains.specs.declared.ChainEnd.{ChainEnd}
 use Rattle.chains.specs.declared.ChainEnd.the-variants as chainEnd
 use Rattle.chains.specs.Answers.{linkAnswer, reachAnswer, endAnswer, refusalOf}
 use Rattle.chains.proofs.Link.{enum}
@@ -144,37 +142,36 @@ module _ (archive : List ℕ) (used kind missing place holder l : ℕ) where
 
 -- ---- to the end
 
--- the answer of a walk that has followed so many links and stands before the link at this place
-abbrev pub endFrom : ℕ → ℕ → Outcome (List Entry) → ChainEnd
-endFrom place links (refused n) = chainEnd.Refused n
-endFrom place links (given es) = chainEnd.At (lastPlace place es) (links + length es)
+-- what a walk to the end of a chain holds: the place of the link at hand and the links followed
+pub record Stand : Type 0 where
+  pub place : ℕ
+  pub links : ℕ
 
-no-links : (place : ℕ) (o : Outcome (List Entry)) → endAnswer place o ≡ endFrom place 0 o
-no-links place (refused n) = refl
-no-links place (given es) = let s : 0 + length es ≡ length es = omega arith in rw s
+abbrev pub stand : ℕ → ℕ → Stand
+stand place links = record { place = place; links = links }
 
-pub end-starts : (archive : List ℕ) (used kind holder offset l : ℕ) → offset + 4 ≤ 32 → l ≡ linkAt (recordAt archive holder) offset
-    → endAnswer (32 * holder + offset) (chain archive used kind holder (linkAt archive (32 * holder + offset)))
-    ≡ endFrom (32 * holder + offset) 0 (chain archive used kind holder l)
-end-starts archive used kind holder offset l h e =
-    rw (e, link-of archive holder offset h)
-    (no-links (32 * holder + offset) (chain archive used kind holder (linkAt archive (32 * holder + offset))))
+abbrev pub onward : Stand → Entry → Stand
+onward s e = stand (32 * (e .number) + 4) (s .links + 1)
 
-one-on : (place links : ℕ) (e : Entry) (o : Outcome (List Entry))
-    → endFrom place links (o >>= λ es. given (e ∷ es)) ≡ endFrom (32 * (e .number) + 4) (links + 1) o
-unfolding _>>=_
-one-on place links e (refused n) = refl
-one-on place links e (given es) = let s : links + suc (length es) ≡ links + 1 + length es = omega arith in rw s
+gathered-stand : (place links : ℕ) (es : List Entry) → gathered onward (stand place links) es ≡ stand (lastPlace place es) (links + length es)
+gathered-stand place links [] = rw (links-end links)
+  where
+    links-end : (links : ℕ) → links + 0 ≡ links
+    links-end links = omega arith
+gathered-stand place links (e ∷ es) =
+    let s : links + 1 + length es ≡ links + suc (length es) = omega arith in
+    gathered-stand (32 * (e .number) + 4) (links + 1) es ∙ rw s
 
-module _ (archive : List ℕ) (used kind holder l place links : ℕ) where
-  pub end-turn : (n next : ℕ) → Met archive used kind holder l n → next ≡ nextOf (recordAt archive n)
-      → endFrom place links (chain archive used kind holder l) ≡ endFrom (32 * n + 4) (links + 1) (chain archive used kind n next)
-  end-turn n next m e =
-      ap (endFrom place links) (chain-met archive used kind holder l n next m e)
-      ∙ one-on place links (entryAt archive n) (chain archive used kind n next)
+module _ (first : ℕ) {o p : Outcome (List Entry)} (e : o ≡ p) where
+  pub end-reached : {s : Stand} → gatheredFrom onward (stand first 0) p ≡ given s → chainEnd.At (s .place) (s .links) ≡ endAnswer first o
+  end-reached {s} f = rw e (go p f)
+    where
+      go : (p : Outcome (List Entry)) → gatheredFrom onward (stand first 0) p ≡ given s → chainEnd.At (s .place) (s .links) ≡ endAnswer first p
+      go (refused n) f = let z : _≡_ {A = ℕ} 0 1 = cc in absurd (omega arith)
+      go (given es) f =
+          let g : s ≡ gathered onward (stand first 0) es = cc in
+          let n : 0 + length es ≡ length es = omega arith in
+          ap (λ (s : Stand). chainEnd.At (s .place) (s .links)) (g ∙ gathered-stand first 0 es ∙ rw n)
 
-  pub end-refused : (n r : ℕ) → chain archive used kind holder l ≡ refused n → r ≡ n → chainEnd.Refused r ≡ endFrom place links (chain archive used kind holder l)
-  end-refused n r e f = rw (e, f)
-
-  pub end-done : l ≡ 0 → chainEnd.At place links ≡ endFrom place links (chain archive used kind holder l)
-  end-done z = let s : links + 0 ≡ links = omega arith in rw (chain-ends archive used kind holder l z, s)
+  pub end-refused : {n r : ℕ} → p ≡ refused n → r ≡ n → chainEnd.Refused r ≡ endAnswer first o
+  end-refused f g = rw (e, f, g)

@@ -4,6 +4,7 @@ ghost use Prim.Native.Nat.{_+_, _*_, _≤_, _<_};
 ghost use lib.ListN.{length};
 ghost use Rattle.rules.specs.Archive.{linkAt, follow, atPlace, chain};
 ghost use Rattle.chains.specs.Answers.{linkAnswer, reachAnswer, endAnswer, refusalOf};
+ghost use Rattle.chains.specs.Held.{LinkHeld};
 use rules::refusal;
 
 // ---- links
@@ -93,8 +94,9 @@ pub enum ChainEnd {
 
 // The chain starts with the link at byte `offset` of its holder. A link that isn't zero never answers with the chain's end.
 pub fn walk_all(archive: &[u8], used: u64, kind: u8, holder: u64, offset: u64) -> ChainEnd
-    requires { ⌜ (32 * used ≤ length (now archive)) × (used < 65536) × (holder < used) × (offset + 4 ≤ 32) ⌝ }
-    ensures { λ r. ⌜ r ≡ endAnswer (32 * holder + offset) (chain (now (archive .entry)) used kind holder (linkAt (now (archive .entry)) (32 * holder + offset))) ⌝ }
+    requires { ⌜ LinkHeld (now archive) used holder offset ⌝ }
+    ensures { λ r. let first = 32 * holder + offset in
+        ⌜ r ≡ endAnswer first (chain (now (archive .entry)) used kind holder (linkAt (now (archive .entry)) first)) ⌝ }
 {
     let mut last = holder;
     let mut at = offset;

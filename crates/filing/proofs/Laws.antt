@@ -1,23 +1,21 @@
 -- What each answer of fresh and append is, over plain variables.
-use mathlib.Core.Path.{_≡_, refl, sym, _∙_, ap, subst}
-use mathlib.Core.Bool.{Bool, true, false, cond}
+use mathlib.Core.Path.{_≡_, sym, _∙_, ap, subst}
+use mathlib.Core.Bool.{true, false}
 use mathlib.Core.List.{List}
-use Prim.Native.Nat.{ℕ, _+_, _*_, _≤_, _<_}
+use Prim.Native.Nat.{ℕ, _+_, _≤_}
 use native.Mathlib.Omega.{arith}
 use lib.ListN.{length, replicate}
-use Rattle.rules.specs.Outcome.{refused, given, _>>_, require, numberOf}
-use Rattle.rules.specs.Refusals.{notArchive, notNamedOnce}
-use Rattle.rules.specs.Archive.{isWhole, usedOf}
+use Rattle.rules.specs.Outcome.{_>>_, require}
+use Rattle.rules.specs.Refusals.{notArchive}
+use Rattle.rules.specs.Archive.{isWhole}
 use Rattle.rules.specs.Encoding.{put}
 use Rattle.rules.specs.Filing.{fresh, appendAfter}
-use Rattle.rules.specs.Links.{linkPlaces}
-use Rattle.rules.specs.Promises.{Freshens, Appends, Audits}
+use Rattle.rules.specs.Promises.{Freshens, Appends}
 use Rattle.rules.proofs.Writes.{freshHead, fresh-written}
 use Rattle.rules.proofs.Sound.{whole-length}
-use Rattle.rules.proofs.AppendSteps.{used-within}
-use Rattle.filing.specs.declared.Place.{Place}
-use Rattle.filing.specs.declared.Place.the-variants as place
-use Rattle.filing.specs.Places.{Places}
+use Rattle.filing.specs.declared.Destination.{Destination}
+use Rattle.filing.specs.declared.Destination.the-variants as destination
+use Rattle.filing.specs.Destinations.{HasRoom, Goes}
 
 -- ---- fresh
 
@@ -39,12 +37,12 @@ module _ (archive : List ℕ) where
 
 -- ---- append
 
-module _ (archive : List ℕ) (owner : ℕ) (new : List ℕ) (x : Place) (p : Places archive owner new x) where
-  pub append-refused : (n : ℕ) → x ≡ place.Refused n → Appends archive owner new archive n
-  append-refused n e = let q = subst (Places archive owner new) e p in record { answers = rw q; leaves = rw q }
+module _ (archive : List ℕ) (owner : ℕ) (new : List ℕ) (x : Destination) (p : Goes archive owner new x) where
+  pub append-refused : (n : ℕ) → x ≡ destination.Refused n → Appends archive owner new archive n
+  append-refused n e = let q = subst (Goes archive owner new) e p in record { answers = rw q; leaves = rw q }
 
-  pub file-needs : (used last : ℕ) → x ≡ place.At used last → (length new ≡ 32) × (32 * used + 32 ≤ length archive) × (last + 4 ≤ length archive) × (used < 65535)
-  file-needs used last e = let q = subst (Places archive owner new) e p in (q .1, q .2, q .3, q .4)
+  pub file-needs : (used last : ℕ) → x ≡ destination.At used last → HasRoom archive used last new
+  file-needs used last e = subst (Goes archive owner new) e p .1
 
-  pub append-done : (used last : ℕ) (later : List ℕ) → x ≡ place.At used last → later ≡ appendAfter archive used last new → Appends archive owner new later 0
-  append-done used last later e f = let q = subst (Places archive owner new) e p in record { answers = rw (q .0); leaves = f ∙ sym (rw (q .0)) }
+  pub append-done : (used last : ℕ) (later : List ℕ) → x ≡ destination.At used last → later ≡ appendAfter archive used last new → Appends archive owner new later 0
+  append-done used last later e f = let q = subst (Goes archive owner new) e p in record { answers = rw (q .0); leaves = f ∙ sym (rw (q .0)) }

@@ -4,11 +4,10 @@ ghost use Prim.Native.Nat.{_+_, _*_, _≤_, _<_};
 ghost use lib.ListN.{length};
 ghost use Rattle.rules.specs.Filing.{appendAfter, newAllowed, offsetFor};
 ghost use Rattle.rules.specs.Promises.{Freshens, Appends};
-ghost use Rattle.filing.specs.Places.{offsetOutcome, Places};
+ghost use Rattle.filing.specs.Destinations.{offsetOutcome, HasRoom, Goes};
 use archive::Head;
 use chains::ChainEnd;
-use record::Owned;
-use rules::kind;
+use record::Slot;
 use rules::refusal;
 
 // ---- fresh
@@ -29,7 +28,7 @@ pub fn fresh(archive: &mut [u8]) -> u64
 
 // The record goes to number U, the last link of its chain points to it, U grows by 1, no other byte changes.
 fn file(archive: &mut [u8], used: u64, last: u64, new: &[u8])
-    requires { ⌜ (length (now new) ≡ 32) × (32 * used + 32 ≤ length (now archive)) × (last + 4 ≤ length (now archive)) × (used < 65535) ⌝ }
+    requires { ⌜ HasRoom (now archive) used last (now new) ⌝ }
     ensures { λ _. ⌜ now (archive .exit) ≡ appendAfter (now (archive .entry)) used last (now (new .entry)) ⌝ }
 {
     writing::put_bytes(archive, 32 * used, new);
@@ -41,17 +40,14 @@ fn file(archive: &mut [u8], used: u64, last: u64, new: &[u8])
 pub fn append(archive: &mut [u8], owner: u64, new: &[u8]) -> u64
     ensures { λ r. ⌜ Appends (now (archive .entry)) owner (now (new .entry)) (now (archive .exit)) r ⌝ }
 {
-    match place_for(archive, owner, new) {
-        Place::Refused(number) => number,
-        Place::At(used, last) => {
-            file(archive, used, last, new);
+    match destination_for(archive, owner, new) {
+        Destination::Refused(number) => number,
+        Destination::At(free, link) => {
+            file(archive, free, link, new);
             0
         }
     }
 }
-
-// Where a new record goes: what append tests before it writes (document 01, 'Calls on the archive'): the record itself (14), its
-// owner (15), the chain that it joins, and the room for it (16).
 
 // 14: 32 bytes of a known kind with every link zero.
 fn new_allowed(new: &[u8]) -> bool
@@ -63,16 +59,17 @@ fn new_allowed(new: &[u8]) -> bool
     if !record::is_kind(record::kind_of(new)) {
         return false;
     }
-    if record::link_at(new, 4) != 0 {
-        return false;
+    let mut i: u64 = 0;
+    while i < record::MOST_LINKS {
+        let Slot::Link(at, _) = record::slot_of(new, i) else {
+            break;
+        };
+        if record::link_at(new, at as usize) != 0 {
+            return false;
+        }
+        i += 1;
     }
-    let Owned::Two(_, _) = record::owned_by(new) else {
-        return true;
-    };
-    if record::link_at(new, 8) != 0 {
-        return false;
-    }
-    record::link_at(new, 12) == 0
+    true
 }
 
 // The byte of an owner's link, or 15.
@@ -81,7 +78,7 @@ enum Offset {
     Refused(u64),
 }
 
-// The owner's link to its records of a kind; the head owns the plants.
+// The owner's link to its records of a kind. Its link at byte 4 leads on along its own chain.
 fn offset_for(archive: &[u8], used: u64, owner: u64, kind: u8) -> Offset
     requires { ⌜ 32 * used ≤ length (now archive) ⌝ }
     ensures { λ r. ⌜ offsetOutcome r ≡ offsetFor (now (archive .entry)) used owner kind ⌝ }
@@ -89,53 +86,47 @@ fn offset_for(archive: &[u8], used: u64, owner: u64, kind: u8) -> Offset
     if used <= owner {
         return Offset::Refused(refusal::BAD_OWNER);
     }
-    if owner == 0 {
-        if kind == kind::PLANT {
-            return Offset::At(8);
+    let mut i: u64 = 0;
+    while i < record::MOST_LINKS {
+        let Slot::Link(at, to) = record::slot_at(archive, owner, i) else {
+            break;
+        };
+        if at != 4 && to == kind {
+            return Offset::At(at);
         }
-        return Offset::Refused(refusal::BAD_OWNER);
-    }
-    let i = owner as usize;
-    let Owned::Two(first, second) = record::owned_by(&archive[32 * i..32 * i + 32]) else {
-        return Offset::Refused(refusal::BAD_OWNER);
-    };
-    if kind == first {
-        return Offset::At(8);
-    }
-    if kind == second {
-        return Offset::At(12);
+        i += 1;
     }
     Offset::Refused(refusal::BAD_OWNER)
 }
 
-// The number of the new record and the place of the link to it, or a refusal.
-pub enum Place {
+// Where a new record goes: its number and the place of the link to it, or a refusal.
+enum Destination {
     At(u64, u64),
     Refused(u64),
 }
 
-// Every test of append: 1, 14, 15, 2, 3, 16.
-pub fn place_for(archive: &[u8], owner: u64, new: &[u8]) -> Place
-    ensures { λ r. ⌜ Places (now (archive .entry)) owner (now (new .entry)) r ⌝ }
+// Every test of append, before a byte is written: 1, 14, 15, 2, 3, 16.
+fn destination_for(archive: &[u8], owner: u64, new: &[u8]) -> Destination
+    ensures { λ r. ⌜ Goes (now (archive .entry)) owner (now (new .entry)) r ⌝ }
 {
     let used = match archive::read_head(archive) {
         Head::Used(used) => used,
-        Head::Refused(number) => return Place::Refused(number),
+        Head::Refused(number) => return Destination::Refused(number),
     };
     if !new_allowed(new) {
-        return Place::Refused(refusal::BAD_RECORD);
+        return Destination::Refused(refusal::BAD_RECORD);
     }
     let kind = record::kind_of(new);
     let offset = match offset_for(archive, used, owner, kind) {
         Offset::At(at) => at,
-        Offset::Refused(number) => return Place::Refused(number),
+        Offset::Refused(number) => return Destination::Refused(number),
     };
     let last = match chains::walk_all(archive, used, kind, owner, offset) {
         ChainEnd::At(last, _) => last,
-        ChainEnd::Refused(number) => return Place::Refused(number),
+        ChainEnd::Refused(number) => return Destination::Refused(number),
     };
     if (archive.len() / 32) as u64 <= used {
-        return Place::Refused(refusal::ARCHIVE_FULL);
+        return Destination::Refused(refusal::ARCHIVE_FULL);
     }
-    Place::At(used, last)
+    Destination::At(used, last)
 }

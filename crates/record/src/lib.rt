@@ -1,11 +1,11 @@
-// The fields of a record (document 01, 'The archive').
+// The fields, the kind and the links of a record (document 01, 'The archive').
 ghost use mathlib.Core.Path.{_≡_};
 ghost use Prim.Native.Nat.{_+_, _*_, _^_, _≤_, _<_};
 ghost use lib.ListN.{length};
 ghost use Rattle.rules.specs.Archive.{linkAt, fieldAt, recordAt, kindOf};
-ghost use Rattle.rules.specs.Links.{isKind, ownedBy};
+ghost use Rattle.rules.specs.Links.{isKind, linksOf, linksAt};
+ghost use Rattle.record.specs.Slots.{slotAnswer};
 ghost use Rattle.record.specs.Powers.{PowerOf};
-ghost use Rattle.record.specs.Owned.{ownedLinks};
 use rules::kind;
 use units::Watt;
 
@@ -36,6 +36,23 @@ pub fn watt_at(r: &[u8], at: usize) -> Watt
     units::watt_of(link_at(r, at))
 }
 
+pub enum Power {
+    Of(Watt),
+    OutOfRange,
+}
+
+// Measured power, limit or plan, in its range.
+pub fn power_at(r: &[u8], at: usize) -> Power
+    requires { ⌜ at + 4 ≤ length (now r) ⌝ }
+    ensures { λ p. ⌜ PowerOf (fieldAt (now (r .entry)) at) p ⌝ }
+{
+    let power = watt_at(r, at);
+    if !units::in_power_range(power) {
+        return Power::OutOfRange;
+    }
+    Power::Of(power)
+}
+
 // Byte 0 of a record.
 pub fn kind_of(r: &[u8]) -> u8
     requires { ⌜ length (now r) ≡ 32 ⌝ }
@@ -53,8 +70,6 @@ pub fn link_of(archive: &[u8], n: u64, at: usize) -> u64
     link_at(&archive[32 * i..32 * i + 32], at)
 }
 
-// The kinds of record and the links that a record owns, which append and audit read (document 01, 'Calls on the archive').
-
 // The known kinds, 1-5.
 pub fn is_kind(kind: u8) -> bool
     ensures { λ r. ⌜ r ≡ isKind kind ⌝ }
@@ -62,42 +77,58 @@ pub fn is_kind(kind: u8) -> bool
     kind::PLANT <= kind && kind <= kind::QUARTER
 }
 
-// The kinds that the links at bytes 8 and 12 of a record lead to, if it has them: a plant's points and measures, a measure's
-// before-quarters and quarters.
-pub enum Owned {
+// ---- links
+
+// Bytes 4-31 of a record have room for so many.
+pub const MOST_LINKS: u64 = 7;
+
+// A link of a record: the byte where it starts and the kind that it leads to.
+pub enum Slot {
+    Link(u64, u8),
     None,
-    Two(u8, u8),
 }
 
-pub fn owned_by(r: &[u8]) -> Owned
+// The i-th link of a record in byte order, counted from 0: to the next record of its chain, then to the first of each chain that it
+// owns. What it has follows from bytes 0-2.
+pub fn slot_of(r: &[u8], i: u64) -> Slot
     requires { ⌜ length (now r) ≡ 32 ⌝ }
-    ensures { λ o. ⌜ ownedLinks o ≡ ownedBy (now (r .entry)) ⌝ }
+    ensures { λ s. ⌜ s ≡ slotAnswer (linksOf (now (r .entry))) i ⌝ }
 {
     let kind = kind_of(r);
+    if !is_kind(kind) {
+        return Slot::None;
+    }
+    if i == 0 {
+        return Slot::Link(4, kind);
+    }
     if kind == kind::PLANT {
-        return Owned::Two(kind::POINT, kind::MEASURE);
+        return match i {
+            1 => Slot::Link(8, kind::POINT),
+            2 => Slot::Link(12, kind::MEASURE),
+            _ => Slot::None,
+        };
     }
     if kind == kind::MEASURE {
-        return Owned::Two(kind::BEFORE, kind::QUARTER);
+        return match i {
+            1 => Slot::Link(8, kind::BEFORE),
+            2 => Slot::Link(12, kind::QUARTER),
+            _ => Slot::None,
+        };
     }
-    Owned::None
+    Slot::None
 }
 
-// ---- powers
-
-pub enum Power {
-    Of(Watt),
-    OutOfRange,
-}
-
-// Measured power, limit or plan, in its range.
-pub fn power_at(r: &[u8], at: usize) -> Power
-    requires { ⌜ at + 4 ≤ length (now r) ⌝ }
-    ensures { λ p. ⌜ PowerOf (fieldAt (now (r .entry)) at) p ⌝ }
+// The i-th link of record n; the head has one, to the first plant.
+pub fn slot_at(archive: &[u8], n: u64, i: u64) -> Slot
+    requires { ⌜ 32 * n + 32 ≤ length (now archive) ⌝ }
+    ensures { λ s. ⌜ s ≡ slotAnswer (linksAt (now (archive .entry)) n) i ⌝ }
 {
-    let power = watt_at(r, at);
-    if !units::in_power_range(power) {
-        return Power::OutOfRange;
+    if n == 0 {
+        if i == 0 {
+            return Slot::Link(8, kind::PLANT);
+        }
+        return Slot::None;
     }
-    Power::Of(power)
+    let at = n as usize;
+    slot_of(&archive[32 * at..32 * at + 32], i)
 }

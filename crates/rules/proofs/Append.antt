@@ -185,8 +185,11 @@ module _ (archive : List ℕ) (owner : ℕ) (new after : List ℕ) (a : Appendin
       around true e = inside (eqb-true n (last .holder) e) (o (eqb-true n (last .holder) e))
       around false e = beside (eqb-false n (last .holder) e) (ltb n (last .holder)) refl
 
+  first-kept : (n i : ℕ) → n < usedBefore → i < 4 → byteAt (recordAt after n) i ≡ byteAt (recordAt archive n) i
+  first-kept n i h k = byte-kept n i h (omega arith) (λ z. k) (λ z. inl (omega (arith, at-within archive (last .holder) (last .of) (last .has))))
+
   pub start-kept : (n : ℕ) → n < usedBefore → SameStart (recordAt after n) (recordAt archive n)
-  start-kept n h = record { same = λ i k. byte-kept n i h (omega arith) (λ z. k) (λ z. inl (omega (arith, at-within archive (last .holder) (last .of) (last .has)))) }
+  start-kept n h = record { same = λ i k. first-kept n i h (omega arith) }
 
   pub kind-kept : (n : ℕ) → n < usedBefore → kindOf (recordAt after n) ≡ kindOf (recordAt archive n)
   kind-kept n h = start-kept n h .same 0 (omega arith)
@@ -230,14 +233,14 @@ module _ (archive : List ℕ) (owner : ℕ) (new after : List ℕ) (a : Appendin
       let f = a .free in
       record {
         whole = rw (writing .long) (a .head .whole);
-        text = texts (start-kept 0 (a .head .some)) (a .head .text);
+        text = texts (recordAt after 0) (recordAt archive 0) (λ i. first-kept 0 i (a .head .some)) (a .head .text);
         count = writing .count;
         some = omega arith;
         room = rw (writing .long) (omega arith);
       }
     where
-      texts : {r s : List ℕ} → SameStart r s → isText s ≡ true → isText r ≡ true
-      texts h t = rw (h .same 0 (omega arith), h .same 1 (omega arith), h .same 2 (omega arith), h .same 3 (omega arith)) t
+      texts : (r s : List ℕ) → ((i : ℕ) → i < 4 → byteAt r i ≡ byteAt s i) → isText s ≡ true → isText r ≡ true
+      texts r s h t = rw (h 0 (omega arith), h 1 (omega arith), h 2 (omega arith), h 3 (omega arith)) t
 
   module _ (well : Well archive usedBefore) where
     leads-after : (n : ℕ) (l : Link) → n < usedBefore → List·Memᴰ l (linksAt archive n) → Leads after (usedBefore + 1) n l

@@ -1,15 +1,16 @@
 -- Audit, one test after another: links, records, and the whole.
-use mathlib.Core.Path.{_≡_, refl}
-use mathlib.Core.Bool.{Bool, true, false, _&&_}
-use mathlib.Core.List.{List, [], _∷_}
+use mathlib.Core.Path.{_≡_}
+use mathlib.Core.Bool.{Bool, true, false, _&&_, or-true}
+use mathlib.Core.List.{List}
+use mathlib.Core.Logic.{_⊎_, inl, inr}
 use Prim.Native.Nat.{ℕ, suc}
 use native.Mathlib.Omega.{arith}
 use lib.Dec.{eqb, ltb}
 use borrow.Author.Tests.{eq-eqb, ne-eqb}
 use Rattle.rules.specs.Outcome.{Outcome, refused, given, _>>=_, _>>_, require}
 use Rattle.rules.specs.Refusals.{wrongKind, notNamedOnce}
-use Rattle.rules.specs.Archive.{linkAt, kindOf, recordAt, plantKind, usedOf, Entry, follow}
-use Rattle.rules.specs.Links.{Link, link, isKind, ownedBy, linksOf, linksAt, standsAt}
+use Rattle.rules.specs.Archive.{linkAt, kindOf, recordAt, usedOf, Entry, follow}
+use Rattle.rules.specs.Links.{Link, isKind, linksAt, standsAt}
 use Rattle.rules.specs.Audit.{linkChecked, linksChecked, recordChecked, recordsChecked, namedOnce, audit}
 
 -- ---- links
@@ -47,29 +48,16 @@ module _ (archive : List ℕ) (used n : ℕ) (l : Link) where
 
 -- ---- records
 
-module _ (archive : List ℕ) (used : ℕ) where
-  pub head-checked : recordChecked archive used 0 ≡ linkChecked archive used 0 (link 8 plantKind) >> given tt
-  unfolding recordChecked linksAt _>>_ require
-  head-checked = refl
+module _ (archive : List ℕ) (used n : ℕ) where
+  pub unknown-checked : (n ≡ 0 → ⊥) → isKind (kindOf (recordAt archive n)) ≡ false → recordChecked archive used n ≡ refused wrongKind
+  unfolding recordChecked _>>_ require
+  unknown-checked some k = rw (ne-eqb n 0 some, k)
 
-  pub head-links : linksAt archive 0 ≡ link 8 plantKind ∷ []
-  unfolding linksAt
-  head-links = refl
-
-  module _ (n : ℕ) (some : n ≡ 0 → ⊥) where
-    pub unknown-checked : isKind (kindOf (recordAt archive n)) ≡ false → recordChecked archive used n ≡ refused wrongKind
-    unfolding recordChecked _>>_ require
-    unknown-checked k = rw (ne-eqb n 0 some, k)
-
-    module _ (known : isKind (kindOf (recordAt archive n)) ≡ true) where
-      pub known-checked : recordChecked archive used n
-          ≡ linkChecked archive used n (link 4 (kindOf (recordAt archive n))) >> linksChecked archive used n (ownedBy (recordAt archive n))
-      unfolding recordChecked linksAt linksOf _>>_ require
-      known-checked = rw (ne-eqb n 0 some, known)
-
-      pub known-links : linksAt archive n ≡ link 4 (kindOf (recordAt archive n)) ∷ ownedBy (recordAt archive n)
-      unfolding linksAt linksOf
-      known-links = rw (ne-eqb n 0 some, known)
+  -- the links of the head, which has no kind, and of a record of a known kind
+  pub links-checked : (n ≡ 0) ⊎ (isKind (kindOf (recordAt archive n)) ≡ true) → recordChecked archive used n ≡ linksChecked archive used n (linksAt archive n)
+  unfolding recordChecked _>>_ require
+  links-checked (inl z) = rw z
+  links-checked (inr k) = rw (k, or-true (eqb n 0))
 
 -- ---- the whole
 

@@ -55,6 +55,11 @@ pub apart-room : (hi lo : ℕ) (l : List ℕ) → Apart hi lo l → lo ≤ hi
 apart-room hi lo [] h = h
 apart-room hi lo (p ∷ l) h = let k = apart-room hi (p + 4) l (h .1) in omega (arith, h .0)
 
+-- so many fit
+pub apart-few : (hi lo : ℕ) (l : List ℕ) → Apart hi lo l → lo + 4 * length l ≤ hi
+apart-few hi lo [] h = omega arith
+apart-few hi lo (p ∷ l) h = let k = apart-few hi (p + 4) l (h .1) in omega (arith, h .0)
+
 pub apart-within : (hi lo p : ℕ) (l : List ℕ) → Apart hi lo l → List·Memᴰ p l → (lo ≤ p) × (p + 4 ≤ hi)
 apart-within hi lo p [] h m = absurd (List·Memᴰ·not-nil m)
 apart-within hi lo p (q ∷ l) h m = go (List·Memᴰ·cases-cons m) (λ m. apart-within hi (q + 4) p l (h .1) m) (apart-room hi (q + 4) l (h .1)) (h .0)

@@ -6,10 +6,11 @@ use mathlib.Core.Logic.{_⊎_, inl, inr}
 use Prim.Native.Nat.{ℕ, zero, suc, _+_, _*_, _≤_, _<_}
 use native.Mathlib.Omega.{arith}
 use lib.Dec.{eqb, leb}
+use lib.ListN.{length, length-map}
 use borrow.Author.Tests.{ne-eqb, eqb-true, eqb-false, leb-false}
 use Rattle.rules.specs.Archive.{byteAt, kindOf, recordAt}
 use Rattle.rules.specs.Links.{Link, link, isKind, headLinks, ownedBy, linksOf, isLinkByte, ownedAt, linksAt, standsAt, linkPlaces}
-use Rattle.rules.proofs.Lists.{Apart, apart-wider, apart-append, apart-within, in-map, of-map}
+use Rattle.rules.proofs.Lists.{Apart, apart-few, apart-wider, apart-append, apart-within, in-map, of-map}
 
 -- ---- the table of links: all that the proofs know of it (a later entry is met here)
 
@@ -47,9 +48,9 @@ owned-linked r l m = go (eqb (kindOf r) 1) refl (eqb (kindOf r) 3) refl
     go false e true f = known (ap isKind (eqb-true (kindOf r) 3 f))
     go false e false f = absurd (List·Memᴰ·not-nil (rw (e, f) at m))
 
--- the links of a record are decided by its first four bytes
+-- the links of a record are decided by bytes 0 to 2
 pub record SameStart (r s : List ℕ) : Type 0 where
-  pub same : (i : ℕ) → i < 4 → byteAt r i ≡ byteAt s i
+  pub same : (i : ℕ) → i < 3 → byteAt r i ≡ byteAt s i
 
 pub owned-same : (r s : List ℕ) → SameStart r s → ownedBy r ≡ ownedBy s
 unfolding ownedBy
@@ -110,6 +111,14 @@ pub links-within : (r : List ℕ) (l : Link) → List·Memᴰ l (linksOf r) → 
 links-within r l m =
     let w = apart-within (32 * 0 + 32) (32 * 0 + 4) (standsAt 0 l) (map (standsAt 0) (linksOf r)) (links-apart 0 r) (in-map (standsAt 0) m) in
     omega arith
+
+-- bytes 4 to 31 hold at most seven links
+pub links-few : (r : List ℕ) → length (linksOf r) ≤ 7
+links-few r = omega (arith, apart-few (32 * 0 + 32) (32 * 0 + 4) (map (standsAt 0) (linksOf r)) (links-apart 0 r), length-map (linksOf r) (standsAt 0))
+
+pub at-few : (archive : List ℕ) (n : ℕ) → length (linksAt archive n) ≤ 7
+at-few archive n =
+    omega (arith, apart-few (32 * n + 32) (32 * n + 4) (map (standsAt n) (linksAt archive n)) (at-apart archive n), length-map (linksAt archive n) (standsAt n))
 
 pub links-at : (archive : List ℕ) (n : ℕ) → 0 < n → linksAt archive n ≡ linksOf (recordAt archive n)
 unfolding linksAt

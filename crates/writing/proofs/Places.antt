@@ -1,15 +1,12 @@
 -- Bytes, 8 to a place: one place written.
-use mathlib.Core.Path.{_≡_, refl, sym, _∙_, ap}
-use mathlib.Core.List.{List, [], _∷_, _++_, map, append-assoc, append-nil}
-use Prim.Native.Nat.{ℕ, zero, suc, _+_, _*_, _-_, _/_, _%_, _^_, _≤_, _<_}
+use mathlib.Core.Path.{_≡_, sym, _∙_, ap}
+use mathlib.Core.List.{List, [], _∷_, _++_, append-nil}
+use Prim.Native.Nat.{ℕ, _+_, _*_, _-_}
 use native.Mathlib.Omega.{arith}
-use lib.ListN.{length, getD, take, drop, length-append, length-drop, take-append-drop}
-use lib.Seq.{sets, sets-eq, drop-drop, drop-length, take-at, drop-at, length-take-le}
+use lib.ListN.{length, drop}
+use lib.Seq.{sets, sets-eq, drop-drop, drop-length}
 use borrow.Rule.Slice.PartMut.{putMid}
-use Rattle.rules.specs.declared.Direction.{Direction}
-use Rattle.rules.specs.declared.Direction.the-variants.{Positive}
-use Rattle.rules.specs.Encoding.{doubleWord, bits, encoded, put}
-use Rattle.rules.specs.Booking.{signed, amountsOf, carriedFrom}
+use Rattle.rules.specs.Encoding.{doubleWord, put}
 
 -- eight stores into a list of eight leave what was stored
 pub eight-stored : (l : List ℕ) → length l ≡ 8 → (a b c d e f g h : ℕ) → sets l 0 (a ∷ b ∷ c ∷ d ∷ e ∷ f ∷ g ∷ h ∷ []) ≡ a ∷ b ∷ c ∷ d ∷ e ∷ f ∷ g ∷ h ∷ []

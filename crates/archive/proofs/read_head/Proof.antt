@@ -36,23 +36,26 @@ is-text-requires c κs = search needs
 returns-2 : tie.Need-returns-2
 unfolding recordAt
 returns-2 c =
-    let a = c .before .before .before .before .before .before .args .archive .now in
-    let size = sym (c .before .before .before .before .is-whole .ensures) ∙ not-false _ (c .before .before .before .if1 .left) in
+    let at-if1 = c .before .before .before in
+    let a = at-if1 .before .before .before .args .archive .now in
+    let size = sym (at-if1 .before .is-whole .ensures) ∙ not-false _ (at-if1 .if1 .left) in
     head-text a size (sym (c .before .is-text .ensures) ∙ not-true _ (c .if2 .taken))
 
 link-of-requires : tie.Need-link-of-requires
 link-of-requires c κs =
-    let a = c .before .before .before .before .before .before .args .archive .now in
-    let size = sym (c .before .before .before .before .is-whole .ensures) ∙ not-false _ (c .before .before .before .if1 .left) in
+    let at-if1 = c .before .before .before in
+    let a = at-if1 .before .before .before .args .archive .now in
+    let size = sym (at-if1 .before .is-whole .ensures) ∙ not-false _ (at-if1 .if1 .left) in
     let w = whole-length (length a) size in
     omega arith
 
 returns-3 : tie.Need-returns-3
 unfolding recordAt
 returns-3 c =
-    let a = c .before .before .before .before .before .before .before .before .args .archive .now in
-    let size = sym (c .before .before .before .before .before .before .is-whole .ensures) ∙ not-false _ (c .before .before .before .before .before .if1 .left) in
-    let text = sym (c .before .before .before .is-text .ensures) ∙ not-false _ (c .before .before .if2 .left) in
+    let at-is-text = c .before .before .before in
+    let a = at-is-text .before .before .before .before .before .args .archive .now in
+    let size = sym (at-is-text .before .before .before .is-whole .ensures) ∙ not-false _ (at-is-text .before .before .if1 .left) in
+    let text = sym (at-is-text .is-text .ensures) ∙ not-false _ (c .before .before .if2 .left) in
     let l = c .before .link-of in
     ⊎-elim
     (λ w. head-none a size text (l .result) (l .ensures .0) (omega arith))
@@ -62,9 +65,10 @@ returns-3 c =
 returns-4 : tie.Need-returns-4
 unfolding recordAt
 returns-4 c =
-    let a = c .before .before .before .before .before .before .before .before .before .args .archive .now in
-    let size = sym (c .before .before .before .before .before .before .before .is-whole .ensures) ∙ not-false _ (c .before .before .before .before .before .before .if1 .left) in
-    let text = sym (c .before .before .before .before .is-text .ensures) ∙ not-false _ (c .before .before .before .if2 .left) in
+    let at-if2 = c .before .before .before in
+    let a = at-if2 .before .before .before .before .before .before .args .archive .now in
+    let size = sym (at-if2 .before .before .before .before .is-whole .ensures) ∙ not-false _ (at-if2 .before .before .before .if1 .left) in
+    let text = sym (at-if2 .before .is-text .ensures) ∙ not-false _ (at-if2 .if2 .left) in
     let l = c .before .before .link-of in
     head-used a size text (l .result) (l .ensures .0) (omega arith) (omega (arith, ltb-false))
 

@@ -41,9 +41,10 @@ part-result-end-2 c = search needs
 
 returns-2 : tie.Need-returns-2
 returns-2 c =
-    let a = c .before .before .before .before .before .before .before .args in
-    let h = c .before .before .before .before .before .read-head in
-    let o = opened (a .archive .now) (h .result) (h .ensures) _ (c .before .before .before .used .given .1) in
+    let at-used = c .before .before .before in
+    let a = at-used .before .before .before .before .args in
+    let h = at-used .before .before .read-head in
+    let o = opened (a .archive .now) (h .result) (h .ensures) _ (at-used .used .given .1) in
     shows-past (a .archive) (a .number) _ refl refl refl _ (o .is) (omega arith)
 
 mul-result : tie.Need-mul-result
@@ -82,9 +83,10 @@ part-result-end-3 c =
 
 returns-3 : tie.Need-returns-3
 returns-3 c =
-    let a = c .before .before .before .before .before .before .before .args in
-    let h = c .before .before .before .before .before .read-head in
-    let o = opened (a .archive .now) (h .result) (h .ensures) _ (c .before .before .before .used .given .1) in
+    let at-used = c .before .before .before in
+    let a = at-used .before .before .before .before .args in
+    let h = at-used .before .before .read-head in
+    let o = opened (a .archive .now) (h .result) (h .ensures) _ (at-used .used .given .1) in
     shows-part (a .archive) (a .number) _ refl _ (o .is) (omega arith) refl refl
 
 pub show-spec : {M : Type 1} → statement M

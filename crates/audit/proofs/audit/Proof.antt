@@ -1,9 +1,11 @@
 -- `audit::audit` meets its contract.
 use mathlib.Core.Path.{_≡_, sym, _∙_}
-use mathlib.Core.Bool.{true, false}
+use mathlib.Core.Bool.{Bool, true, false, cond}
 use borrow.Author.Needs.{needs}
 use Rattle.rules.specs.Outcome.{given}
+use Rattle.rules.specs.Refusals.{notNamedOnce}
 use Rattle.rules.specs.Archive.{usedOf}
+use Rattle.rules.specs.Promises.{Audits}
 use Rattle.rules.proofs.AppendSteps.{used-within}
 use Rattle.archive.proofs.Laws.{opened, unopened}
 use Rattle.audit.specs.Marks.{noMarks}
@@ -28,9 +30,12 @@ claims = (
 )
 
 used-is : (c : lts.After-used claims reads.Pre reads.Post) → usedOf (c .before .before .before .before .args .archive .now) ≡ given (c .used .given .0 .0)
-used-is c =
-    let r = c .before .before .read-head in
-    opened (c .before .before .before .before .args .archive .now) (r .result) (r .ensures) _ (c .used .given .1) .is
+used-is c = let r = c .before .before .read-head in opened _ (r .result) (r .ensures) _ (c .used .given .1) .is
+
+-- the marks decide
+decided : (c : lts.After-all-once claims reads.Pre reads.Post) (t : Bool) → c .all-once .result ≡ t → Audits (c .before .before .before .before .before .before .before .before .before .before .before .args .archive .now) (cond t 0 notNamedOnce)
+unfolding noMarks
+decided c t e = audit-done _ _ (used-is (c .before .before .before .before .before .before .before)) _ _ (c .before .before .before .before .check-records .ensures) (c .before .before .if1 .left) t (sym e ∙ c .all-once .ensures)
 
 read-head-requires : tie.Need-read-head-requires
 read-head-requires c κs = search needs
@@ -52,29 +57,27 @@ slice-aggregate-check-records c = sym marks-long
 
 check-records-requires : tie.Need-check-records-requires
 unfolding noMarks
-check-records-requires c κs = let w = used-within (c .before .before .before .before .before .before .args .archive .now) _ (used-is (c .before .before)) in (w .1, w .2, no-marks)
+check-records-requires c κs =
+    let w = used-within _ _ (used-is (c .before .before)) in
+    (record { fits = w .1; few = w .2; size = no-marks }, w .0)
 
 returns-2 : tie.Need-returns-2
 unfolding noMarks
-returns-2 c = audit-refused (c .before .before .before .before .before .before .before .before .before .args .archive .now) _ (used-is (c .before .before .before .before .before)) _ _ (c .before .before .check-records .ensures) (c .if1 .taken)
+returns-2 c = audit-refused _ _ (used-is (c .before .before .before .before .before)) _ _ (c .before .before .check-records .ensures) (c .if1 .taken)
 
 slice-aggregate-all-once : tie.Need-slice-aggregate-all-once
 slice-aggregate-all-once c = sym (c .before .before .before .check-records .kept .1 .1 .0 ∙ marks-long)
 
 all-once-requires : tie.Need-all-once-requires
 all-once-requires c κs =
-    let w = used-within (c .before .before .before .before .before .before .before .before .before .before .args .archive .now) _ (used-is (c .before .before .before .before .before .before)) in
+    let w = used-within _ _ (used-is (c .before .before .before .before .before .before)) in
     (w .0, marks-enough (w .2) (slice-aggregate-all-once c))
 
 returns-3 : tie.Need-returns-3
-unfolding noMarks
-returns-3 c =
-    audit-done (c .before .before .before .before .before .before .before .before .before .before .before .before .args .archive .now) _ (used-is (c .before .before .before .before .before .before .before .before)) _ _ (c .before .before .before .before .before .check-records .ensures) (c .before .before .before .if1 .left) true (sym (c .if2 .taken) ∙ c .before .all-once .ensures)
+returns-3 c = decided (c .before) true (c .if2 .taken)
 
 returns-4 : tie.Need-returns-4
-unfolding noMarks
-returns-4 c =
-    audit-done (c .before .before .before .before .before .before .before .before .before .before .before .before .args .archive .now) _ (used-is (c .before .before .before .before .before .before .before .before)) _ _ (c .before .before .before .before .before .check-records .ensures) (c .before .before .before .if1 .left) false (sym (c .if2 .left) ∙ c .before .all-once .ensures)
+returns-4 c = decided (c .before) false (c .if2 .left)
 
 pub audit-spec : {M : Type 1} → statement M
 audit-spec =

@@ -28,9 +28,10 @@ returns c =
 
 mark-requires : tie.Need-mark-requires
 mark-requires c κs =
-    let a = c .before .before .before .before .before .before .before .before .args in
-    let l = c .before .before .before .before .before .link-of in
-    let f = c .before .before .before .before .follow in
+    let at-follow = c .before .before .before .before in
+    let a = at-follow .before .before .before .before .args in
+    let l = at-follow .before .link-of in
+    let f = at-follow .follow in
     let to = led (a .archive .now) (a .used) (a .n) (a .at) (a .to) (omega arith) (l .result) (l .ensures .0) (f .result) (f .ensures) _ (c .before .before .answer .given .1) in
     omega arith
 
@@ -39,11 +40,12 @@ same-length c = search needs
 
 returns-2 : tie.Need-returns-2
 returns-2 c =
-    let a = c .before .before .before .before .before .before .before .before .before .before .before .args in
-    let l = c .before .before .before .before .before .before .before .before .link-of in
-    let f = c .before .before .before .before .before .before .before .follow in
+    let at-answer = c .before .before .before .before .before in
+    let a = at-answer .before .before .before .before .before .before .args in
+    let l = at-answer .before .before .before .link-of in
+    let f = at-answer .before .before .follow in
     link-marked (a .archive .now) (a .used) (a .n) (a .at) (a .to) (omega arith) (l .result) (l .ensures .0) (f .result) (f .ensures) (a .marks .now) _ _
-    (c .before .before .before .before .before .answer .given .1) (c .before .before .mark .ensures)
+    (at-answer .answer .given .1) (c .before .before .mark .ensures)
 
 pub check-link-spec : {M : Type 1} → statement M
 check-link-spec =

@@ -4,9 +4,24 @@ use Prim.Native.Nat.{suc, _-_, _≤_}
 use native.Mathlib.Omega.{arith}
 use borrow.Author.Needs.{needs}
 use Rattle.rules.specs.Archive.{atPlace}
-use Rattle.chains.proofs.Laws.{no-at, met, place-zero, place-starts, place-turn, place-met, place-none, reach-refused, reach-given}
+use Rattle.chains.proofs.Laws.{no-at, Met, met, place-zero, place-starts, place-turn, place-met, place-none, reach-refused, reach-given}
 use Rattle.chains.proofs.walk_to.Statement.{statement}
 use Rattle.chains.proofs.walk_to.Tie as tie
+use Rattle.chains.proofs.walk_to.Reads as reads
+use Rattle.chains.proofs.walk_to.Lts as lts
+use Rattle.record.proofs.link_of.Reads as link-of-reads
+use Rattle.chains.proofs.follow.Reads as follow-reads
+use Rattle.chains.proofs.refusal_of.Reads as refusal-of-reads
+
+abbrev claims : lts.Claims
+claims = (
+  follow-reads.Asked,
+  follow-reads.Learnt,
+  refusal-of-reads.Asked,
+  refusal-of-reads.Learnt,
+  link-of-reads.Asked,
+  link-of-reads.Learnt,
+)
 
 abbrev Inv-loop : tie.InvT-loop
 Inv-loop archive used kind holder first place missing reached₀ link₀ links₀ reached link links =
@@ -15,6 +30,12 @@ Inv-loop archive used kind holder first place missing reached₀ link₀ links�
 
 abbrev μ-loop : tie.MeasureT-loop
 μ-loop archive used kind holder first place missing reached₀ link₀ links₀ reached link links = place - links
+
+turned : (c : lts.After-answer claims reads.Pre reads.Post Inv-loop μ-loop)
+    → let l = c .before .before .before .loop in
+    let a = c .before .before .before .before .before .before .args in
+    Met (a .archive .now) (a .used) (a .kind) (l .reached) (l .link) (c .answer .given .0 .0)
+turned c = let f = c .before .before .follow in met _ _ _ _ _ (f .result) (f .ensures) _ (c .answer .given .1)
 
 returns : tie.Need-returns Inv-loop μ-loop
 returns c =
@@ -49,21 +70,14 @@ returns-2 c =
 
 returns-3 : tie.Need-returns-3 Inv-loop μ-loop
 returns-3 c =
-    let a = c .before .before .before .before .before .before .before .before .args in
     let l = c .before .before .before .before .before .loop in
-    let f = c .before .before .before .before .follow in
-    let m = met (a .archive .now) (a .used) (a .kind) (l .reached) (l .link) (f .result) (f .ensures) _ (c .before .before .answer .given .1) in
+    let a = c .before .before .before .before .before .before .before .before .args in
     reach-given (a .place) _ _ (l .links)
-    (l .inv .0 ∙ place-met (a .archive .now) (a .used) (a .kind) (l .reached) (l .link) _ (a .missing) (a .place) (l .links) m (omega arith))
+    (l .inv .0 ∙ place-met (a .archive .now) (a .used) (a .kind) (l .reached) (l .link) _ (a .missing) (a .place) (l .links) (turned (c .before .before)) (omega arith))
     (omega arith)
 
 link-of-requires : tie.Need-link-of-requires Inv-loop μ-loop
-link-of-requires c κs =
-    let a = c .before .before .before .before .before .before .before .before .args in
-    let l = c .before .before .before .before .before .loop in
-    let f = c .before .before .before .before .follow in
-    let m = met (a .archive .now) (a .used) (a .kind) (l .reached) (l .link) (f .result) (f .ensures) _ (c .before .before .answer .given .1) in
-    omega arith
+link-of-requires c κs = let m = turned (c .before .before) in omega arith
 
 add-links : tie.Need-add-links Inv-loop μ-loop
 add-links c = omega arith
@@ -73,12 +87,10 @@ loop-less c = omega arith
 
 loop-again : tie.Need-loop-again Inv-loop μ-loop
 loop-again c =
-    let a = c .before .before .before .before .before .before .before .before .before .args in
     let l = c .before .before .before .before .before .before .loop in
-    let f = c .before .before .before .before .before .follow in
-    let m = met (a .archive .now) (a .used) (a .kind) (l .reached) (l .link) (f .result) (f .ensures) _ (c .before .before .before .answer .given .1) in (
+    let a = c .before .before .before .before .before .before .before .before .before .args in (
       l .inv .0
-          ∙ place-turn (a .archive .now) (a .used) (a .kind) (l .reached) (l .link) _ (c .link-of .result) m (c .link-of .ensures .0)
+          ∙ place-turn (a .archive .now) (a .used) (a .kind) (l .reached) (l .link) _ (c .link-of .result) (turned (c .before .before .before)) (c .link-of .ensures .0)
           (a .missing) (a .place) (l .links) (omega arith),
       omega arith,
       omega arith,

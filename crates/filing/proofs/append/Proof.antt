@@ -4,20 +4,20 @@ use Rattle.filing.proofs.Laws.{append-refused, file-needs, append-done}
 use Rattle.filing.proofs.append.Statement.{statement}
 use Rattle.filing.proofs.append.Tie as tie
 
-place-for-requires : tie.Need-place-for-requires
-place-for-requires c κs = search needs
+destination-for-requires : tie.Need-destination-for-requires
+destination-for-requires c κs = search needs
 
 enum-known-number : tie.Need-enum-known-number
 enum-known-number c = search needs
 
-enum-known-used : tie.Need-enum-known-used
-enum-known-used c = search needs
+enum-known-free : tie.Need-enum-known-free
+enum-known-free c = search needs
 
 file-requires : tie.Need-file-requires
 file-requires c κs =
     let a = c .before .before .before .before .before .before .before .before .args in
-    let p = c .before .before .before .before .place-for in
-    file-needs (a .archive .now) (a .owner) (a .new .now) (p .result) (p .ensures) _ _ (c .before .before .used .given .1)
+    let p = c .before .before .before .before .destination-for in
+    file-needs (a .archive .now) (a .owner) (a .new .now) (p .result) (p .ensures) _ _ (c .before .before .free .given .1)
 
 same-length : tie.Need-same-length
 same-length c = search needs
@@ -25,7 +25,7 @@ same-length c = search needs
 returns : tie.Need-returns
 returns c =
     let a = c .before .before .before .before .before .before .before .args in
-    let p = c .before .before .before .place-for in
+    let p = c .before .before .before .destination-for in
     append-refused (a .archive .now) (a .owner) (a .new .now) (p .result) (p .ensures) _ (c .before .number .given .1)
 
 same-length-2 : tie.Need-same-length-2
@@ -33,17 +33,18 @@ same-length-2 c = search needs
 
 returns-2 : tie.Need-returns-2
 returns-2 c =
-    let a = c .before .before .before .before .before .before .before .before .before .before .before .args in
-    let p = c .before .before .before .before .before .before .before .place-for in
-    append-done (a .archive .now) (a .owner) (a .new .now) (p .result) (p .ensures) _ _ _ (c .before .before .before .before .before .used .given .1) (c .before .before .file .ensures)
+    let at-free = c .before .before .before .before .before in
+    let a = at-free .before .before .before .before .before .before .args in
+    let p = at-free .before .before .destination-for in
+    append-done (a .archive .now) (a .owner) (a .new .now) (p .result) (p .ensures) _ _ _ (at-free .free .given .1) (c .before .before .file .ensures)
 
 pub append-spec : {M : Type 1} → statement M
 append-spec =
     tie.close
     (tie.spec
-    place-for-requires
+    destination-for-requires
     enum-known-number
-    enum-known-used
+    enum-known-free
     file-requires
     same-length
     returns

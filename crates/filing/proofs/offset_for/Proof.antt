@@ -1,98 +1,86 @@
 -- `filing::offset_for` meets its contract.
-use mathlib.Core.Path.{_≡_, sym, _∙_, ap}
+use mathlib.Core.Path.{sym}
+use mathlib.Core.Logic.{⊎-elim}
+use Prim.Native.Nat.{_-_, _<_}
+use native.Mathlib.Omega.{arith}
 use borrow.Author.Needs.{needs}
-use Rattle.rules.specs.Archive.{recordAt}
-use Rattle.rules.specs.Links.{ownedBy}
-use Rattle.rules.proofs.Chains.{record-part}
-use Rattle.rules.proofs.Owners.{offset-unused, offset-plant, offset-no-plant, offset-none, offset-first, offset-second, offset-neither}
-use Rattle.record.specs.Owned.{ownedLinks}
+use Rattle.rules.specs.Links.{linksAt}
+use Rattle.rules.proofs.Places.{at-few}
+use Rattle.rules.proofs.Owners.{offset-unused, offset-among}
+use Rattle.record.proofs.Slots.{Here, here, past, past-all}
+use Rattle.filing.proofs.Links.{OffsetFrom, offset-none, offset-is, offset-next, offset-other}
 use Rattle.filing.proofs.offset_for.Statement.{statement}
 use Rattle.filing.proofs.offset_for.Tie as tie
 use Rattle.filing.proofs.offset_for.Reads as reads
 use Rattle.filing.proofs.offset_for.Lts as lts
-use Rattle.record.proofs.owned_by.Reads as owned-by-reads
+use Rattle.record.proofs.slot_at.Reads as slot-at-reads
+
+abbrev Inv-loop : tie.InvT-loop
+Inv-loop archive used owner kind i₀ i = OffsetFrom archive used owner kind i × (owner < used)
+
+abbrev μ-loop : tie.MeasureT-loop
+μ-loop archive used owner kind i₀ i = 7 - i
 
 abbrev claims : lts.Claims
-claims = (owned-by-reads.Asked, owned-by-reads.Learnt)
+claims = (slot-at-reads.Asked, slot-at-reads.Learnt)
 
-owns : (c : lts.After-owned-by claims reads.Pre reads.Post) → ownedLinks (c .owned-by .result) ≡ ownedBy (recordAt (c .before .before .before .before .before .args .archive .now) (c .before .before .before .before .before .args .owner))
-owns c = c .owned-by .ensures ∙ ap ownedBy (record-part (c .before .before .before .before .before .args .archive .now) (c .before .before .before .before .before .args .owner))
+slot : (c : lts.After-at claims reads.Pre reads.Post Inv-loop μ-loop)
+    → let a = c .before .before .before .before .before .before .before .args in
+    Here (linksAt (a .archive .now) (a .owner)) (c .before .before .before .before .loop .i) (c .at .given .0 .0) (c .at .given .0 .1 .0)
+slot c = here _ _ (c .before .before .slot-at .ensures) (c .at .given .1)
 
-returns : tie.Need-returns
+returns : tie.Need-returns Inv-loop μ-loop
 returns c = let a = c .before .before .args in sym (offset-unused (a .archive .now) (a .used) (a .owner) (a .kind) (c .if1 .taken))
 
-returns-2 : tie.Need-returns-2
-returns-2 c = let a = c .before .before .before .before .args in sym (offset-plant (a .archive .now) (a .used) (a .owner) (a .kind) (c .before .before .if1 .left) (c .before .if2 .taken) (c .if3 .taken))
+loop-holds : tie.Need-loop-holds Inv-loop μ-loop
+loop-holds c =
+    let a = c .before .before .args in
+    (record { is = offset-among (a .archive .now) (a .used) (a .owner) (a .kind) (c .if1 .left) }, c .if1 .left)
 
-returns-3 : tie.Need-returns-3
-returns-3 c = let a = c .before .before .before .before .args in sym (offset-no-plant (a .archive .now) (a .used) (a .owner) (a .kind) (c .before .before .if1 .left) (c .before .if2 .taken) (c .if3 .left))
+slot-at-requires : tie.Need-slot-at-requires Inv-loop μ-loop
+slot-at-requires c κs = omega arith
 
-mul-owned-by : tie.Need-mul-owned-by
-mul-owned-by c = search needs
+enum-known-at : tie.Need-enum-known-at Inv-loop μ-loop
+enum-known-at c = search needs
 
-mul-owned-by-2 : tie.Need-mul-owned-by-2
-mul-owned-by-2 c = search needs
-
-add-owned-by : tie.Need-add-owned-by
-add-owned-by c = search needs
-
-sub-owned-by : tie.Need-sub-owned-by
-sub-owned-by c = search needs
-
-part-owned-by-start : tie.Need-part-owned-by-start
-part-owned-by-start c = search needs
-
-part-owned-by-end : tie.Need-part-owned-by-end
-part-owned-by-end c = search needs
-
-owned-by-requires : tie.Need-owned-by-requires
-owned-by-requires c κs = search needs
-
-enum-known-first : tie.Need-enum-known-first
-enum-known-first c = search needs
-
-enum-told : tie.Need-enum-told
+enum-told : tie.Need-enum-told Inv-loop μ-loop
 enum-told c = search needs
 
-returns-4 : tie.Need-returns-4
-returns-4 c =
-    let a = c .before .before .before .before .before .before .before .args in
-    sym (offset-none (a .archive .now) (a .used) (a .owner) (a .kind) (c .before .before .before .before .before .if1 .left) (c .before .before .before .before .if2 .left) (ap ownedLinks (sym (c .enum-told .given .1)) ∙ owns (c .before .before)))
+returns-2 : tie.Need-returns-2 Inv-loop μ-loop
+returns-2 c = sym (offset-is (c .before .before .before .before .before .before .before .loop .inv .0) (slot (c .before .before .before)) (c .before .if2 .taken) (c .if3 .taken))
 
-returns-5 : tie.Need-returns-5
-returns-5 c =
-    let a = c .before .before .before .before .before .before .before .before .before .args in
-    sym (offset-first (a .archive .now) (a .used) (a .owner) (a .kind) (c .before .before .before .before .before .before .before .if1 .left) (c .before .before .before .before .before .before .if2 .left) _ _ (ap ownedLinks (sym (c .before .before .first .given .1)) ∙ owns (c .before .before .before .before)) (c .if4 .taken))
+add-i : tie.Need-add-i Inv-loop μ-loop
+add-i c = omega arith
 
-returns-6 : tie.Need-returns-6
-returns-6 c =
-    let a = c .before .before .before .before .before .before .before .before .before .before .args in
-    sym (offset-second (a .archive .now) (a .used) (a .owner) (a .kind) (c .before .before .before .before .before .before .before .before .if1 .left) (c .before .before .before .before .before .before .before .if2 .left) _ _ (ap ownedLinks (sym (c .before .before .before .first .given .1)) ∙ owns (c .before .before .before .before .before))
-    (c .before .if4 .left) (c .if5 .taken))
+loop-less : tie.Need-loop-less Inv-loop μ-loop
+loop-less c = omega arith
 
-returns-7 : tie.Need-returns-7
-returns-7 c =
-    let a = c .before .before .before .before .before .before .before .before .before .before .args in
-    sym (offset-neither (a .archive .now) (a .used) (a .owner) (a .kind) (c .before .before .before .before .before .before .before .before .if1 .left) (c .before .before .before .before .before .before .before .if2 .left) _ _ (ap ownedLinks (sym (c .before .before .before .first .given .1)) ∙ owns (c .before .before .before .before .before))
-    (c .before .if4 .left) (c .if5 .left))
+loop-again : tie.Need-loop-again Inv-loop μ-loop
+loop-again c =
+    let l = c .before .before .before .before .before .before .loop in
+    let h = slot (c .before .before) in
+    (⊎-elim (λ w. offset-other (l .inv .0) h (w .1 .left)) (λ w. offset-next (l .inv .0) h (w .left)) (c .if2 .came), l .inv .1)
+
+returns-3 : tie.Need-returns-3 Inv-loop μ-loop
+returns-3 c = sym (offset-none (c .before .loop .inv .0) (past-all _ (at-few _ _) (c .loop-test .left)))
+
+returns-4 : tie.Need-returns-4 Inv-loop μ-loop
+returns-4 c = sym (offset-none (c .before .before .before .before .loop .inv .0) (past _ _ (c .before .before .slot-at .ensures) (c .enum-told .given .1)))
 
 pub offset-for-spec : {M : Type 1} → statement M
 offset-for-spec =
     tie.close
     (tie.spec
+    Inv-loop
+    μ-loop
     returns
-    returns-2
-    returns-3
-    mul-owned-by
-    mul-owned-by-2
-    add-owned-by
-    sub-owned-by
-    part-owned-by-start
-    part-owned-by-end
-    owned-by-requires
-    enum-known-first
+    loop-holds
+    slot-at-requires
+    enum-known-at
     enum-told
-    returns-4
-    returns-5
-    returns-6
-    returns-7)
+    returns-2
+    add-i
+    loop-less
+    loop-again
+    returns-3
+    returns-4)
