@@ -46,7 +46,9 @@ fn settle_on(
         return refusal::NO_ROOM as u32;
     }
     let direction = measure.direction;
-    let total = booking::book_bytes(direction, measure.denominator, &sheet[..count], list);
+    let denominator = measure.denominator;
+    let inverse = carry::inverse_of(denominator, count);
+    let total = booking::book_bytes(direction, denominator, inverse, &sheet[..count], list);
     put_result(
         result,
         measure.count,
