@@ -1,6 +1,5 @@
 -- Booking one magnitude: the quotient and the remainder of the magnitude alone, and at most one Wh more from what was carried.
 use mathlib.Core.Path.{_≡_, _∙_, ap}
-use mathlib.Core.Logic.{_⊎_, ⊎-elim}
 use Prim.Native.Nat.{ℕ, _+_, _*_, _-_, _/_, _%_, _^_, _≤_, _<_}
 use native.Mathlib.Nat.{div-add-mod, mod-lt, div-eq-of-lt, div-lt-self, mul-add-div, mul-add-mod-self-left, mod-eq-of-lt, mul-add, mul-comm, mul-le-mul}
 use native.Mathlib.Omega.{arith}
@@ -16,7 +15,7 @@ product-fits {a} {b} p q =
     let low′ : b ≤ 4294967295 = omega arith in
     omega (arith, mul-le-mul low low′)
 
-pub high-fits : {a b : ℕ} → a < 2 ^ 32 → b < 2 ^ 32 → a * b / 4294967296 < 2 ^ 32
+pub high-fits : {a b : ℕ} → a < 2 ^ 32 → b < 2 ^ 32 → a * b / 274877906944 < 2 ^ 32
 high-fits p q = omega (arith, product-fits p q)
 
 -- a number by its quotient and remainder
@@ -26,13 +25,11 @@ quotient n d q rest h e = rw e (mul-add-div (omega arith) q rest ∙ omega (arit
 remainder : (n d q rest : ℕ) → rest < d → n ≡ d * q + rest → n % d ≡ rest
 remainder n d q rest h e = rw e (mul-add-mod-self-left d q rest ∙ mod-eq-of-lt h)
 
--- an estimate e whose product is at most n, or one more, with what is left of n
-pub parts-shown : (n d e whole rest : ℕ) → e * d ≤ n → ((d ≤ n - e * d) × (whole ≡ e + 1) × (rest ≡ n - e * d - d)) ⊎ ((whole ≡ e) × (rest ≡ n - e * d)) → rest < d
-    → _≡_ {A = Parts} (record { whole = whole; rest = rest }) (partsOf n d)
-parts-shown n d e whole rest low came h =
-    let all : n ≡ d * whole + rest =
-    ⊎-elim (λ w. rw (w .1) (omega (arith, low, w .0, w .2, mul-comm e d, mul-add d e 1))) (λ w. rw (w .0) (omega (arith, low, w .1, mul-comm e d))) came in
-    rw (quotient n d whole rest h all, remainder n d whole rest h all)
+-- an estimate whose product is at most n, with what is left of n
+pub parts-shown : (n d whole : ℕ) → whole * d ≤ n → n - whole * d < d → _≡_ {A = Parts} (record { whole = whole; rest = n - whole * d }) (partsOf n d)
+parts-shown n d whole low h =
+    let all : n ≡ d * whole + (n - whole * d) = omega (arith, low, mul-comm whole d) in
+    rw (quotient n d whole (n - whole * d) h all, remainder n d whole (n - whole * d) h all)
 
 -- p is the magnitude's whole Wh and what is left of it
 module _ (c : Carry) (m : ℕ) (p : Parts) (parts-are : p ≡ partsOf m (c .denominator)) where

@@ -31,39 +31,36 @@ fn divided(n: u64, d: u64) -> Parts
     Parts { whole, rest }
 }
 
-// For so many magnitudes: 2^(63 - up) over a denominator of 32 bits that begins with `up` zeros. Fewer than 16 are sooner divided, with 0.
+// For so many magnitudes: 2^(63 - up) over a denominator of 32 bits that begins with `up` zeros. 0 where an estimate doesn't pay: fewer
+// than 16 magnitudes, or a denominator that the rules fix, 4 × 1 or 4 × 10,000.
 pub fn inverse_of(denominator: u64, count: usize) -> u64
     requires { ⌜ 0 < denominator ⌝ }
 {
-    if count < 16 {
+    if count < 16 || denominator == 4 || denominator == 40000 {
         return 0;
     }
     let up = u64::leading_zeros(denominator) % 32;
     (18446744073709551615 >> (up + 1)) / denominator
 }
 
-// By the inverse of d, n / d or one less where that is below some 2^30: the bits of n from d's highest on, times the inverse.
+// By the inverse of d, n / d for most n where that is below 2^25: the bits of n from 6 below d's highest on, times the inverse.
 fn estimate(n: u64, d: u64, inverse: u64) -> u64
     ensures { λ r. ⌜ r < 2 ^ 32 ⌝ }
 {
-    let up = u64::leading_zeros(d) % 32;
-    let high = (n >> (31 - up)) % 4294967296;
-    high * (inverse % 4294967296) >> 32
+    let down = 57 - u64::leading_zeros(d) % 58;
+    let high = (n >> down) % 4294967296;
+    high * (inverse % 4294967296) >> 38
 }
 
-// The estimate or one more, if what is left of n shows it right; a division otherwise.
+// The estimate, if what is left of n shows it right; a division otherwise.
 fn by_estimate(n: u64, d: u64, inverse: u64) -> Parts
     requires { ⌜ (0 < d) × (d < 2 ^ 32) ⌝ }
     ensures { λ r. ⌜ r ≡ partsOf n d ⌝ }
 {
-    let mut whole = estimate(n, d, inverse);
+    let whole = estimate(n, d, inverse);
     let product = whole * d;
     if product <= n {
-        let mut rest = n - product;
-        if d <= rest {
-            whole += 1;
-            rest -= d;
-        }
+        let rest = n - product;
         if rest < d {
             return Parts { whole, rest };
         }
@@ -71,19 +68,19 @@ fn by_estimate(n: u64, d: u64, inverse: u64) -> Parts
     divided(n, d)
 }
 
-// n / d and n % d. The two denominators that the rules fix, 4 × 1 and 4 × 10,000, are divided by as constants, which is quicker.
+// n / d and n % d. The denominators that the rules fix are divided by as constants, which is quicker.
 fn quotient(n: u64, d: u64, inverse: u64) -> Parts
     requires { ⌜ 0 < d ⌝ }
     ensures { λ r. ⌜ r ≡ partsOf n d ⌝ }
 {
+    if inverse != 0 && d < 4294967296 {
+        return by_estimate(n, d, inverse);
+    }
     if d == 4 {
         return divided(n, 4);
     }
     if d == 40000 {
         return divided(n, 40000);
-    }
-    if inverse != 0 && d < 4294967296 {
-        return by_estimate(n, d, inverse);
     }
     divided(n, d)
 }

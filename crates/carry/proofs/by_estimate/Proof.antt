@@ -1,5 +1,4 @@
 -- `carry::by_estimate` meets its contract. Assumes nothing.
-use mathlib.Core.Logic.{inl, inr, ⊎-elim}
 use borrow.Author.Needs.{needs}
 use Rattle.carry.proofs.Carrying.{product-fits, parts-shown}
 use Rattle.carry.proofs.by_estimate.Statement.{statement}
@@ -11,15 +10,11 @@ estimate-requires c κs = search needs
 mul-product : tie.Need-mul-product
 mul-product c = record { fits = product-fits (c .estimate .ensures) (c .before .pre .1) }
 
-add-whole : tie.Need-add-whole
-add-whole c = search needs
-
 returns : tie.Need-returns
 returns c =
-    let e = c .before .before .before in
+    let e = c .before .before in
     let a = e .before .args in
-    parts-shown (a .n) (a .d) (e .estimate .result) _ _ (c .before .before .if1 .taken)
-    (⊎-elim (λ w. inl (w .0 .taken, w .1, w .2)) (λ w. inr (w .1, w .2)) (c .before .if2 .came)) (c .if3 .taken)
+    parts-shown (a .n) (a .d) (e .estimate .result) (c .before .if1 .taken) (c .if2 .taken)
 
 divided-requires : tie.Need-divided-requires
 divided-requires c κs = search needs
@@ -28,4 +23,4 @@ returns-2 : tie.Need-returns-2
 returns-2 c = search needs
 
 pub by-estimate-spec : {M : Type 1} → statement M
-by-estimate-spec = tie.close (tie.spec estimate-requires mul-product add-whole returns divided-requires returns-2)
+by-estimate-spec = tie.close (tie.spec estimate-requires mul-product returns divided-requires returns-2)

@@ -5,8 +5,8 @@ use Rattle.carry.proofs.Carrying.{product-fits, high-fits}
 use Rattle.carry.proofs.estimate.Statement.{statement}
 use Rattle.carry.proofs.estimate.Tie as tie
 
-sub-high : tie.Need-sub-high
-sub-high c = search needs
+sub-down : tie.Need-sub-down
+sub-down c = search needs
 
 cast-high : tie.Need-cast-high
 cast-high c = search needs
@@ -21,11 +21,4 @@ returns : tie.Need-returns
 returns c = high-fits (omega arith) (omega arith)
 
 pub estimate-spec : {M : Type 1} → statement M
-estimate-spec =
-    tie.close
-    (tie.spec
-    sub-high
-    cast-high
-    shr-high
-    mul-result
-    returns)
+estimate-spec = tie.close (tie.spec sub-down cast-high shr-high mul-result returns)
