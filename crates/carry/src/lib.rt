@@ -1,12 +1,14 @@
 // The carry of a measure, lent to the booking step and updated there quarter by quarter (01, 'Amounts').
 ghost use mathlib.Core.Path.{_≡_};
-ghost use Prim.Native.Nat.{_<_, _≤_, _/_, _^_};
-ghost use Rattle.carry.specs.Carrying.{bookedOf};
+ghost use Prim.Native.Nat.{_<_, _≤_, _^_};
+ghost use Rattle.carry.specs.Carrying.{bookedOf, partsOf};
 
-// What is carried on to the next quarter, less than 1 Wh: `remainder` over `denominator`.
+// What is carried on to the next quarter, less than 1 Wh: `remainder` over `denominator`. With `inverse_of` the denominator beside it few
+// magnitudes need a division; no amount depends on it.
 pub struct Carry {
     pub remainder: u64,
     pub denominator: u64,
+    pub inverse: u64,
 }
 
 pub struct Booked {
@@ -14,46 +16,102 @@ pub struct Booked {
     pub carry: Carry,
 }
 
-// n / d. The two denominators that the rules fix, 4 × 1 and 4 × 10,000, are divided by as constants, which is quicker.
-fn quotient(n: u64, d: u64) -> u64
+// A division's quotient and remainder.
+struct Parts {
+    whole: u64,
+    rest: u64,
+}
+
+fn divided(n: u64, d: u64) -> Parts
     requires { ⌜ 0 < d ⌝ }
-    ensures { λ q. ⌜ q ≡ n / d ⌝ }
+    ensures { λ r. ⌜ r ≡ partsOf n d ⌝ }
 {
+    let whole = n / d;
+    let rest = n % d;
+    Parts { whole, rest }
+}
+
+// For so many magnitudes: 2^(63 - up) over a denominator of 32 bits that begins with `up` zeros. 0 where an estimate doesn't pay: fewer
+// than 16 magnitudes, or a denominator that the rules fix, 4 × 1 or 4 × 10,000.
+pub fn inverse_of(denominator: u64, count: usize) -> u64
+    requires { ⌜ 0 < denominator ⌝ }
+{
+    if count < 16 || denominator == 4 || denominator == 40000 {
+        return 0;
+    }
+    let up = u64::leading_zeros(denominator) % 32;
+    (18446744073709551615 >> (up + 1)) / denominator
+}
+
+// By the inverse of d, n / d for most n where that is below 2^25: the bits of n from 6 below d's highest on, times the inverse.
+fn estimate(n: u64, d: u64, inverse: u64) -> u64
+    ensures { λ r. ⌜ r < 2 ^ 32 ⌝ }
+{
+    let down = 57 - u64::leading_zeros(d) % 58;
+    let high = (n >> down) % 4294967296;
+    high * (inverse % 4294967296) >> 38
+}
+
+// The estimate, if what is left of n shows it right; a division otherwise.
+fn by_estimate(n: u64, d: u64, inverse: u64) -> Parts
+    requires { ⌜ (0 < d) × (d < 2 ^ 32) ⌝ }
+    ensures { λ r. ⌜ r ≡ partsOf n d ⌝ }
+{
+    let whole = estimate(n, d, inverse);
+    let product = whole * d;
+    if product <= n {
+        let rest = n - product;
+        if rest < d {
+            return Parts { whole, rest };
+        }
+    }
+    divided(n, d)
+}
+
+// n / d and n % d. The denominators that the rules fix are divided by as constants, which is quicker.
+fn quotient(n: u64, d: u64, inverse: u64) -> Parts
+    requires { ⌜ 0 < d ⌝ }
+    ensures { λ r. ⌜ r ≡ partsOf n d ⌝ }
+{
+    if inverse != 0 && d < 4294967296 {
+        return by_estimate(n, d, inverse);
+    }
     if d == 4 {
-        return n / 4;
+        return divided(n, 4);
     }
     if d == 40000 {
-        return n / 40000;
+        return divided(n, 40000);
     }
-    n / d
+    divided(n, d)
 }
 
 // One magnitude booked, by value. The division is the magnitude's alone, so that it doesn't wait for the quarter before.
-pub fn booking(c: Carry, magnitude: u64) -> Booked
+fn booking(c: Carry, magnitude: u64) -> Booked
     requires { ⌜ (c .remainder < c .denominator) × (c .denominator ≤ 2 ^ 63) ⌝ }
     ensures { λ r. ⌜ r ≡ bookedOf c magnitude ⌝ }
 {
     let d = c.denominator;
-    let whole = quotient(magnitude, d);
-    let rest = c.remainder + (magnitude - whole * d);
+    let parts = quotient(magnitude, d, c.inverse);
+    let whole = parts.whole;
+    let rest = c.remainder + parts.rest;
     if rest < d {
         let carry = Carry {
             remainder: rest,
             denominator: d,
+            inverse: c.inverse,
         };
         Booked {
             amount: whole,
             carry,
         }
     } else {
+        let amount = whole + 1;
         let carry = Carry {
             remainder: rest - d,
             denominator: d,
+            inverse: c.inverse,
         };
-        Booked {
-            amount: whole + 1,
-            carry,
-        }
+        Booked { amount, carry }
     }
 }
 

@@ -32,7 +32,8 @@ fn settle_on(
     sheet: &mut [u64],
 ) -> u32
     requires { ⌜ min (length (now list) / 8) 2976 ≤ length (now sheet) ⌝ }
-    ensures { λ r. ⌜ HostSettles (now (archive .entry)) p k (now (list .entry)) (now (list .exit)) (now (result .entry)) (now (result .exit)) r ⌝ }
+    ensures { λ r. ⌜ HostSettles (now (archive .entry)) p k (now (list .entry)) (now (list .exit))
+        (now (result .entry)) (now (result .exit)) r ⌝ }
 {
     let measure = match prepare::prepare(archive, p, k, sheet) {
         Prepared::Ready(measure) => measure,
@@ -46,7 +47,9 @@ fn settle_on(
         return refusal::NO_ROOM as u32;
     }
     let direction = measure.direction;
-    let total = booking::book_bytes(direction, measure.denominator, &sheet[..count], list);
+    let denominator = measure.denominator;
+    let inverse = carry::inverse_of(denominator, count);
+    let total = booking::book_bytes(direction, denominator, inverse, &sheet[..count], list);
     put_result(
         result,
         measure.count,
@@ -59,7 +62,8 @@ fn settle_on(
 // Plant place p and measure place k; the list has a place for every 8 of its bytes.
 #[no_mangle]
 pub extern "C" fn settle(archive: &[u8], p: u64, k: u64, list: &mut [u8], result: &mut [u8]) -> u32
-    ensures { λ r. ⌜ HostSettles (now (archive .entry)) p k (now (list .entry)) (now (list .exit)) (now (result .entry)) (now (result .exit)) r ⌝ }
+    ensures { λ r. ⌜ HostSettles (now (archive .entry)) p k (now (list .entry)) (now (list .exit))
+        (now (result .entry)) (now (result .exit)) r ⌝ }
 {
     if list.len() / 8 <= 96 {
         let mut sheet = [0u64; 96];

@@ -22,7 +22,7 @@ use Rattle.rules.proofs.AppendSteps.{used-within}
 use Rattle.text.specs.Writes.{Writes}
 use Rattle.text.proofs.Decimals.{written-front}
 use Rattle.report.specs.declared.Cursor.{Cursor}
-use Rattle.report.specs.Cursors.{rest, finished, bytesLeft, startAt, settledAt, quarterAt, moved, firstAt, endedAt, steps, Fits, Begins, Advances, Continues, Fills}
+use Rattle.report.specs.Cursors.{rest, finished, bytesLeft, startAt, settledAt, quarterAt, moved, firstAt, endedAt, steps, Fits, Ends, Begins, Advances, Continues, Fills}
 use Rattle.report.proofs.Counts.{settled-counted}
 
 -- ---- text
@@ -140,14 +140,13 @@ pub writes-head : {a b : List ℕ} {e : ℕ} → Writes a 0 (textOf (refusalLine
 writes-head {a} {b} {e} w = subst (λ (l : List ℕ). Writes a 0 l b e) (sym (text-one (refusalLine 0 0 notArchive))) w
 
 -- a refused head or too long an input: one line
-pub begins-refused : (input out out′ : List ℕ) (c : Cursor) → output input ≡ headRefused → c ≡ endedAt (c .end)
-    → Writes out 0 (textOfAll headRefused) out′ (c .end) → c .end ≤ 108 → Begins input out′ c
+pub begins-refused : (input out out′ : List ℕ) (c : Cursor) → output input ≡ headRefused → Ends out out′ c → Begins input out′ c
 unfolding rest
-begins-refused input out out′ c h i w b = subst (λ (x : Cursor). Begins input out′ x) (sym i) (record {
+begins-refused input out out′ c h e = subst (λ (x : Cursor). Begins input out′ x) (sym (e .is)) (record {
   text = λ list.
-      streams (output input) (rest input (endedAt (c .end)) list) (omega arith) w (ap textOfAll h ∙ text-append headRefused (rest input (endedAt (c .end)) list));
+      streams (output input) (rest input (endedAt (c .end)) list) (omega arith) (e .line) (ap textOfAll h ∙ text-append headRefused (rest input (endedAt (c .end)) list));
   fits = λ list size. record {
-    head = λ e. absurd (true≢false e);
+    head = λ d. absurd (true≢false d);
     low = omega arith;
     size = size;
     placed = omega arith;
@@ -155,7 +154,7 @@ begins-refused input out out′ c h i w b = subst (λ (x : Cursor). Begins input
     plant-low = omega arith;
     measure-low = omega arith;
   };
-  within = b;
+  within = e .within;
 })
 
 -- nothing is written yet

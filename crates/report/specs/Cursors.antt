@@ -10,7 +10,8 @@ use lib.ListN.{length, take, drop}
 use Rattle.rules.specs.Outcome.{given}
 use Rattle.rules.specs.Numbers.{mapFrom}
 use Rattle.rules.specs.Archive.{usedOf}
-use Rattle.rules.specs.Output.{Line, quarterLine, Step, nextMeasure, nextPlant, stop, linesFrom, output, textOfAll}
+use Rattle.rules.specs.Output.{Line, quarterLine, Step, nextMeasure, nextPlant, stop, linesFrom, headRefused, output, textOfAll}
+use Rattle.text.specs.Writes.{Writes}
 use Rattle.report.specs.declared.Cursor.{Cursor}
 
 -- the quarters of the measure last settled that aren't written yet, then the measures from places p and k on, unless the report has ended
@@ -53,12 +54,24 @@ pub record Fits (archive : List ℕ) (c : Cursor) (list : List ℤ) : Type 0 whe
   pub plant-low : c .p ≤ c .used
   pub measure-low : c .k ≤ c .used
 
+-- a quarter is next, with its amount in the list and room for its line
+pub record QuarterDue (c : Cursor) (list : List ℤ) (out : List ℕ) : Type 0 where
+  pub left : c .place < c .count
+  pub listed : c .count ≤ length list
+  pub room : c .end + 108 ≤ length out
+
 -- before the first measure, and after a refused head
 abbrev pub firstAt : ℕ → Cursor
 firstAt used = record { used = used; p = 1; k = 1; place = 0; count = 0; done = false; end = 0 }
 
 abbrev pub endedAt : ℕ → Cursor
 endedAt end = record { used = 0; p = 0; k = 0; place = 0; count = 0; done = true; end = end }
+
+-- the report has ended with the line of a refused head
+pub record Ends (out out′ : List ℕ) (c : Cursor) : Type 0 where
+  pub is : c ≡ endedAt (c .end)
+  pub line : Writes out 0 (textOfAll headRefused) out′ (c .end)
+  pub within : c .end ≤ 108
 
 -- the whole output of an input is what is written at first and what is left, whatever stands in the list
 pub record Begins (input out : List ℕ) (c : Cursor) : Type 0 where

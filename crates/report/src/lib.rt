@@ -4,9 +4,9 @@ ghost use mathlib.Core.List.{List};
 ghost use Prim.Native.Nat.{ℕ, _+_, _≤_, _<_};
 ghost use lib.ListN.{length};
 ghost use Rattle.rules.specs.Outcome.{refused};
-ghost use Rattle.rules.specs.Output.{linesOf, stepAfter, headRefused, textOfAll};
+ghost use Rattle.rules.specs.Output.{linesOf, stepAfter, textOfAll};
 ghost use Rattle.text.specs.Writes.{Writes};
-ghost use Rattle.report.specs.Cursors.{finished, startAt, settledAt, moved, firstAt, endedAt, Fits, Begins, Advances};
+ghost use Rattle.report.specs.Cursors.{finished, startAt, settledAt, moved, firstAt, Fits, QuarterDue, Ends, Begins, Advances};
 use archive::Head;
 use rules::refusal;
 
@@ -33,7 +33,7 @@ pub fn is_finished(cursor: Cursor) -> bool
 
 // The line of the next quarter.
 pub fn put_next_quarter(cursor: Cursor, list: &[i64], out: &mut [u8]) -> Cursor
-    requires { ⌜ (cursor .place < cursor .count) × (cursor .count ≤ length (now list)) × (cursor .end + 108 ≤ length (now out)) ⌝ }
+    requires { ⌜ QuarterDue cursor (now list) (now out) ⌝ }
     ensures { λ r. ⌜ ((archive : List ℕ) → Fits archive cursor (now (list .entry))
         → Advances archive cursor (now (list .entry)) (now (out .entry)) r (now (list .entry)) (now (out .exit))) ⌝ }
 {
@@ -107,7 +107,7 @@ pub fn after_refusal(cursor: Cursor, number: u64, end: usize) -> Cursor
 // The line of a refused head.
 fn refused_head(out: &mut [u8]) -> Cursor
     requires { ⌜ 108 ≤ length (now out) ⌝ }
-    ensures { λ r. ⌜ (r ≡ endedAt (r .end)) × Writes (now (out .entry)) 0 (textOfAll headRefused) (now (out .exit)) (r .end) × (r .end ≤ 108) ⌝ }
+    ensures { λ r. ⌜ Ends (now (out .entry)) (now (out .exit)) r ⌝ }
 {
     let end = text::put_refusal(out, 0, 0, 0, refusal::NOT_ARCHIVE);
     Cursor {

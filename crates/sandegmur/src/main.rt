@@ -1,17 +1,17 @@
 // The program (document 01, 'Calls on the archive'): reads an archive of at most 65,536 bytes from standard input and settles all
 // measures in order.
-ghost use mathlib.Core.Path.{_≡_};
-ghost use mathlib.Core.Bool.{false};
-ghost use Prim.Native.Nat.{_+_, _≤_};
+ghost use Prim.Native.Nat.{_≤_};
 ghost use lib.ListN.{length};
-ghost use Rattle.report.specs.Cursors.{finished, Fits, Advances, Fills};
+ghost use Rattle.report.specs.Cursors.{Fits, Advances, Fills};
+ghost use Rattle.sandegmur.specs.Due.{LineDue, MeasureDue};
 use report::Cursor;
 use settle::Settled;
 
 // The measure at the cursor's places: its first line, with its amounts in the list, or its refusal.
 fn put_next_measure(archive: &[u8], cursor: Cursor, list: &mut [i64], out: &mut [u8]) -> Cursor
-    requires { ⌜ Fits (now archive) cursor (now list) × (cursor .count ≤ cursor .place) × (cursor .done ≡ false) × (cursor .end + 108 ≤ length (now out)) ⌝ }
-    ensures { λ r. ⌜ Advances (now (archive .entry)) cursor (now (list .entry)) (now (out .entry)) r (now (list .exit)) (now (out .exit)) ⌝ }
+    requires { ⌜ MeasureDue (now archive) cursor (now list) (now out) ⌝ }
+    ensures { λ r. ⌜ Advances (now (archive .entry)) cursor (now (list .entry)) (now (out .entry))
+        r (now (list .exit)) (now (out .exit)) ⌝ }
 {
     match settle::settle(archive, cursor.p, cursor.k, list) {
         Settled::Given(count, total, links) => {
@@ -27,8 +27,9 @@ fn put_next_measure(archive: &[u8], cursor: Cursor, list: &mut [i64], out: &mut 
 
 // One line more, or none where a plant has no further measure or the archive no further plant.
 fn put_next(archive: &[u8], cursor: Cursor, list: &mut [i64], out: &mut [u8]) -> Cursor
-    requires { ⌜ Fits (now archive) cursor (now list) × (finished cursor ≡ false) × (cursor .end + 108 ≤ length (now out)) ⌝ }
-    ensures { λ r. ⌜ Advances (now (archive .entry)) cursor (now (list .entry)) (now (out .entry)) r (now (list .exit)) (now (out .exit)) ⌝ }
+    requires { ⌜ LineDue (now archive) cursor (now list) (now out) ⌝ }
+    ensures { λ r. ⌜ Advances (now (archive .entry)) cursor (now (list .entry)) (now (out .entry))
+        r (now (list .exit)) (now (out .exit)) ⌝ }
 {
     if cursor.place < cursor.count {
         return report::put_next_quarter(cursor, list, out);

@@ -39,11 +39,14 @@ fn settle_on(archive: &[u8], p: u64, k: u64, list: &mut [i64], sheet: &mut [u64]
         return Settled::Refused(refusal::NO_ROOM);
     }
     let direction = measure.direction;
-    let total = booking::book_all(direction, measure.denominator, &sheet[..count], list);
+    let denominator = measure.denominator;
+    let inverse = carry::inverse_of(denominator, count);
+    let total = booking::book_all(direction, denominator, inverse, &sheet[..count], list);
     Settled::Given(measure.count, total, measure.links)
 }
 
-// Plant place p and measure place k, both counted from 1 along their chains. A list for a day needs only a short sheet, which is sooner cleared.
+// Plant place p and measure place k, both counted from 1 along their chains. A list for a day needs only a short sheet, which is sooner
+// cleared.
 pub fn settle(archive: &[u8], p: u64, k: u64, list: &mut [i64]) -> Settled
     ensures { λ r. ⌜ Settles (now (archive .entry)) p k (now (list .entry)) (now (list .exit)) (answered r) ⌝ }
 {

@@ -66,7 +66,7 @@ pub fn magnitude(z: i64) -> u64
 }
 
 // A minus sign below zero.
-pub fn put_signed(out: &mut [u8], at: usize, z: i64) -> usize
+fn put_signed(out: &mut [u8], at: usize, z: i64) -> usize
     requires { ⌜ at + 21 ≤ length (now out) ⌝ }
     ensures { λ r. ⌜ Writes (now (out .entry)) at (signedDecimal z) (now (out .exit)) r × (r ≤ at + 21) ⌝ }
 {

@@ -25,17 +25,25 @@ loop-less c = omega arith
 
 loop-again : tie.Need-loop-again Inv-loop μ-loop
 loop-again c =
-    let k = c .before .before .before .before .before .before .run-next .kept in let l = c .before .before .before .before .before .before .before .before .before .before .before .loop .inv in
+    let n = c .before .before .before .before .before .before in
+    let k = n .run-next .kept in
+    let l = n .before .before .before .before .before .loop .inv in
     (k .1 .0 ∙ l .0, k .1 .1 .0 ∙ l .1, k .1 .1 .1 .0 ∙ l .2)
 
 same-length : tie.Need-same-length Inv-loop μ-loop
-same-length c = c .before .before .before .before .before .before .run-next .kept .1 .0 ∙ c .before .before .before .before .before .before .before .before .before .before .before .loop .inv .0
+same-length c =
+    let n = c .before .before .before .before .before .before in
+    n .run-next .kept .1 .0 ∙ n .before .before .before .before .before .loop .inv .0
 
 same-length-2 : tie.Need-same-length-2 Inv-loop μ-loop
-same-length-2 c = c .before .before .before .before .before .before .run-next .kept .1 .1 .0 ∙ c .before .before .before .before .before .before .before .before .before .before .before .loop .inv .1
+same-length-2 c =
+    let n = c .before .before .before .before .before .before in
+    n .run-next .kept .1 .1 .0 ∙ n .before .before .before .before .before .loop .inv .1
 
 same-length-3 : tie.Need-same-length-3 Inv-loop μ-loop
-same-length-3 c = c .before .before .before .before .before .before .run-next .kept .1 .1 .1 .0 ∙ c .before .before .before .before .before .before .before .before .before .before .before .loop .inv .2
+same-length-3 c =
+    let n = c .before .before .before .before .before .before in
+    n .run-next .kept .1 .1 .1 .0 ∙ n .before .before .before .before .before .loop .inv .2
 
 returns : tie.Need-returns Inv-loop μ-loop
 returns c = tt

@@ -31,7 +31,13 @@ add-next-2 c = search needs
 
 returns-5 : tie.Need-returns-5
 unfolding moved
-returns-5 c = let a = c .before .before .before .before .before .args in ap (λ (s : Step). moved s (a .cursor) (a .end)) (sym (step-other (a .number) (c .before .before .before .before .if1 .left) (c .before .before .before .if2 .left) (c .before .before .if3 .left) (c .before .if4 .left)))
+returns-5 c =
+    let five = c .before in
+    let three = five .before in
+    let two = three .before in
+    let four = two .before in
+    let a = four .before .args in
+    ap (λ (s : Step). moved s (a .cursor) (a .end)) (sym (step-other (a .number) (four .if1 .left) (two .if2 .left) (three .if3 .left) (five .if4 .left)))
 
 pub after-refusal-spec : {M : Type 1} → statement M
 after-refusal-spec =

@@ -15,8 +15,9 @@ same-length c = search needs
 
 returns : tie.Need-returns
 returns c =
-    let r = c .before .before .refused-head in let i = c .before .before .before .before .before .before .before .args .input .now in
-    begins-refused i _ _ (r .result) (output-long i (omega arith)) (r .ensures .0) (r .ensures .1) (r .ensures .2)
+    let r = c .before .before in
+    let i = r .before .before .before .before .before .args .input .now in
+    begins-refused i _ _ (r .refused-head .result) (output-long i (omega arith)) (r .refused-head .ensures)
 
 read-head-requires : tie.Need-read-head-requires
 read-head-requires c κs = search needs
@@ -35,16 +36,22 @@ same-length-2 c = search needs
 
 returns-2 : tie.Need-returns-2
 returns-2 c =
-    let r = c .before .before .refused-head2 in let i = c .before .before .before .before .before .before .before .before .before .before .args .input .now in let h = c .before .before .before .before .before .before .read-head in
-    begins-refused i _ _ (r .result) (output-refused i _ (unopened i (h .result) (h .ensures) _ (c .before .before .before .before .enum-told .given .1))) (r .ensures .0) (r .ensures .1) (r .ensures .2)
+    let r = c .before .before in
+    let t = r .before .before in
+    let h = t .before .before in
+    let i = h .before .before .before .before .args .input .now in
+    begins-refused i _ _ (r .refused-head2 .result)
+    (output-refused i _ (unopened i (h .read-head .result) (h .read-head .ensures) _ (t .enum-told .given .1))) (r .refused-head2 .ensures)
 
 first-requires : tie.Need-first-requires
 first-requires c κs = search needs
 
 returns-3 : tie.Need-returns-3
 returns-3 c =
-    let i = c .before .before .before .before .before .before .before .before .args .input .now in let h = c .before .before .before .before .read-head in
-    begins-first i _ _ (c .first .result) (omega arith) (opened i (h .result) (h .ensures) _ (c .before .before .used .given .1) .is) (c .first .ensures)
+    let u = c .before .before in
+    let h = u .before .before in
+    let i = h .before .before .before .before .args .input .now in
+    begins-first i _ _ (c .first .result) (omega arith) (opened i (h .read-head .result) (h .read-head .ensures) _ (u .used .given .1) .is) (c .first .ensures)
 
 pub begin-spec : {M : Type 1} → statement M
 begin-spec =

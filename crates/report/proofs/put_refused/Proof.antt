@@ -18,7 +18,10 @@ same-length : tie.Need-same-length
 same-length c = search needs
 
 returns-3 : tie.Need-returns-3
-returns-3 c = let a = c .before .before .before .before .before .before .before .args in (writes-line (a .number) (a .p) (a .k) (c .before .before .before .before .before .if1 .left) (c .before .before .before .before .if2 .left) (c .before .before .put-refusal .ensures .0), omega arith)
+returns-3 c =
+    let i = c .before .before .before .before in
+    let a = i .before .before .before .args in
+    (writes-line (a .number) (a .p) (a .k) (i .before .if1 .left) (i .if2 .left) (c .before .before .put-refusal .ensures .0), omega arith)
 
 pub put-refused-spec : {M : Type 1} → statement M
 put-refused-spec =

@@ -13,8 +13,7 @@ same-length : tie.Need-same-length
 same-length c = search needs
 
 returns : tie.Need-returns
-returns c =
-    (refl, writes-head (c .before .before .put-refusal .ensures .0), omega arith)
+returns c = record { is = refl; line = writes-head (c .before .before .put-refusal .ensures .0); within = omega arith }
 
 pub refused-head-spec : {M : Type 1} → statement M
 refused-head-spec = tie.close (tie.spec put-refusal-requires same-length returns)

@@ -21,7 +21,9 @@ from-start-requires : tie.Need-from-start-requires Inv-loop μ-loop
 from-start-requires c κs = tt
 
 loop-holds : tie.Need-loop-holds Inv-loop μ-loop
-loop-holds c = let b = c .before .before .before in (continues-none (b .args .archive .now) (b .args .cursor) (b .args .list .now) (c .from-start .result) (b .args .out .now) (b .pre .0) (c .from-start .ensures), refl, refl)
+loop-holds c =
+    let b = c .before .before .before in
+    (continues-none (b .args .archive .now) (b .args .cursor) (b .args .list .now) (c .from-start .result) (b .args .out .now) (b .pre .0) (c .from-start .ensures), refl, refl)
 
 is-finished-requires : tie.Need-is-finished-requires Inv-loop μ-loop
 is-finished-requires c κs = tt
@@ -36,18 +38,32 @@ same-length-2 : tie.Need-same-length-2 Inv-loop μ-loop
 same-length-2 c = c .before .before .before .before .loop .inv .1
 
 returns : tie.Need-returns Inv-loop μ-loop
-returns c = let b = c .before .before .before .before .before .before .before .before in let s = c .before .before .before .before .before .from-start in
-    fills-from (b .args .archive .now) (b .args .cursor) (s .result) (b .args .list .now) (s .ensures) (c .before .before .before .before .loop .inv .0) (inr (omega arith))
+returns c =
+    let l = c .before .before .before .before in
+    let s = l .before in
+    let b = s .before .before .before in
+    fills-from (b .args .archive .now) (b .args .cursor) (s .from-start .result) (b .args .list .now) (s .from-start .ensures) (l .loop .inv .0) (inr (omega arith))
 
 put-next-requires : tie.Need-put-next-requires Inv-loop μ-loop
-put-next-requires c κs = (c .before .before .before .before .before .before .loop .inv .0 .fits, sym (c .before .before .before .before .before .is-finished .ensures) ∙ not-true _ (c .before .before .before .before .if1 .taken), omega arith)
+put-next-requires c κs =
+    let i = c .before .before .before .before in
+    let t = i .before in
+    record {
+      fits = t .before .loop .inv .0 .fits;
+      unfinished = sym (t .is-finished .ensures) ∙ not-true _ (i .if1 .taken);
+      room = omega arith;
+    }
 
 loop-less : tie.Need-loop-less Inv-loop μ-loop
 loop-less c = let w = c .before .before .before .put-next .ensures in omega (arith, w .onward, w .within)
 
 loop-again : tie.Need-loop-again Inv-loop μ-loop
-loop-again c = let b = c .before .before .before .before .before .before .before .before .before .before .before .before .before .before in let l = c .before .before .before .before .before .before .before .before .before .before .loop in let n = c .before .before .before .put-next in
-    (continues-on (b .args .archive .now) _ _ (l .inv .0) (n .ensures) (omega arith) (n .kept .1 .1 .1 .0), n .kept .1 .1 .1 .0 ∙ l .inv .1, n .kept .1 .1 .0 ∙ l .inv .2)
+loop-again c =
+    let n = c .before .before .before in
+    let k = n .put-next .kept .1 .1 in
+    let l = n .before .before .before .before .before .before .before in
+    let b = l .before .before .before .before in
+    (continues-on (b .args .archive .now) _ _ (l .loop .inv .0) (n .put-next .ensures) (omega arith) (k .1 .0), k .1 .0 ∙ l .loop .inv .1, k .0 ∙ l .loop .inv .2)
 
 same-length-3 : tie.Need-same-length-3 Inv-loop μ-loop
 same-length-3 c = c .before .before .loop .inv .2
@@ -56,8 +72,12 @@ same-length-4 : tie.Need-same-length-4 Inv-loop μ-loop
 same-length-4 c = c .before .before .loop .inv .1
 
 returns-2 : tie.Need-returns-2 Inv-loop μ-loop
-returns-2 c = let b = c .before .before .before .before .before .before in let s = c .before .before .before .from-start in
-    fills-from (b .args .archive .now) (b .args .cursor) (s .result) (b .args .list .now) (s .ensures) (c .before .before .loop .inv .0) (inl (sym (c .before .is-finished .ensures) ∙ not-false _ (c .if1 .left)))
+returns-2 c =
+    let l = c .before .before in
+    let s = l .before in
+    let b = s .before .before .before in
+    fills-from (b .args .archive .now) (b .args .cursor) (s .from-start .result) (b .args .list .now) (s .from-start .ensures) (l .loop .inv .0)
+    (inl (sym (c .before .is-finished .ensures) ∙ not-false _ (c .if1 .left)))
 
 pub fill-spec : {M : Type 1} → statement M
 fill-spec =

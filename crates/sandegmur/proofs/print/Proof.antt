@@ -34,20 +34,32 @@ write-all-requires : tie.Need-write-all-requires Inv-loop μ-loop
 write-all-requires c κs = tt
 
 same-length : tie.Need-same-length Inv-loop μ-loop
-same-length c = let f = c .before .before .before .before .before .before .fill in f .kept .1 .1 .0 ∙ c .before .before .before .before .before .before .before .before .before .before .before .loop .inv .2
+same-length c =
+    let f = c .before .before .before .before .before .before in
+    f .fill .kept .1 .1 .0 ∙ f .before .before .before .before .before .loop .inv .2
 
 same-length-2 : tie.Need-same-length-2 Inv-loop μ-loop
-same-length-2 c = let f = c .before .before .before .before .before .before .fill in f .kept .1 .1 .1 .0 ∙ c .before .before .before .before .before .before .before .before .before .before .before .loop .inv .1
+same-length-2 c =
+    let f = c .before .before .before .before .before .before in
+    f .fill .kept .1 .1 .1 .0 ∙ f .before .before .before .before .before .loop .inv .1
 
 returns : tie.Need-returns Inv-loop μ-loop
 returns c = tt
 
 loop-less : tie.Need-loop-less Inv-loop μ-loop
-loop-less c = let l = c .before .before .before .before .before .before .before .before .before .before .before .loop in let f = c .before .before .before .before .before .before .fill in
-    less-left (c .before .before .before .before .before .before .before .before .before .before .before .before .before .before .args .archive .now) (l .cursor) (l .list) (f .result) _ _ (sym (c .before .before .before .before .before .before .before .before .before .before .is-finished .ensures) ∙ not-true _ (c .before .before .before .before .before .before .before .before .before .if1 .taken)) (f .ensures)
+loop-less c =
+    let f = c .before .before .before .before .before .before in
+    let i = f .before .before .before in
+    let t = i .before in
+    let l = t .before in
+    less-left (l .before .before .before .args .archive .now) (l .loop .cursor) (l .loop .list) (f .fill .result) _ _ (sym (t .is-finished .ensures) ∙ not-true _ (i .if1 .taken)) (f .fill .ensures)
 
 loop-again : tie.Need-loop-again Inv-loop μ-loop
-loop-again c = let l = c .before .before .before .before .before .before .before .before .before .before .before .loop in let f = c .before .before .before .before .before .before .fill in (f .ensures .continues .fits, f .kept .1 .1 .1 .0 ∙ l .inv .1, f .kept .1 .1 .0 ∙ l .inv .2)
+loop-again c =
+    let f = c .before .before .before .before .before .before in
+    let k = f .fill .kept .1 .1 in
+    let l = f .before .before .before .before .before .loop in
+    (f .fill .ensures .continues .fits, k .1 .0 ∙ l .inv .1, k .0 ∙ l .inv .2)
 
 same-length-3 : tie.Need-same-length-3 Inv-loop μ-loop
 same-length-3 c = c .before .before .loop .inv .2

@@ -6,7 +6,9 @@ use Rattle.sandegmur.proofs.put_next.Statement.{statement}
 use Rattle.sandegmur.proofs.put_next.Tie as tie
 
 put-next-quarter-requires : tie.Need-put-next-quarter-requires
-put-next-quarter-requires c κs = let f = c .before .before .before .before .before .before .pre .0 in omega (arith, f .counted, f .size)
+put-next-quarter-requires c κs =
+    let due = c .before .before .before .before .before .before .pre in
+    record { left = omega arith; listed = omega (arith, due .fits .counted, due .fits .size); room = due .room }
 
 same-length : tie.Need-same-length
 same-length c = search needs
@@ -15,10 +17,15 @@ same-length-2 : tie.Need-same-length-2
 same-length-2 c = search needs
 
 returns : tie.Need-returns
-returns c = c .before .before .put-next-quarter .ensures (c .before .before .before .before .before .before .before .before .before .args .archive .now) (c .before .before .before .before .before .before .before .before .before .pre .0)
+returns c =
+    let q = c .before .before in
+    let b = q .before .before .before .before .before .before .before in
+    q .put-next-quarter .ensures (b .args .archive .now) (b .pre .fits)
 
 put-next-measure-requires : tie.Need-put-next-measure-requires
-put-next-measure-requires c κs = let b = c .before .before .before .before .before .before in (b .pre .0, omega arith, not-done (b .args .cursor) (b .pre .1) (omega arith), b .pre .2)
+put-next-measure-requires c κs =
+    let b = c .before .before .before .before .before .before in
+    record { fits = b .pre .fits; written = omega arith; unfinished = not-done (b .args .cursor) (b .pre .unfinished) (omega arith); room = b .pre .room }
 
 same-length-3 : tie.Need-same-length-3
 same-length-3 c = search needs

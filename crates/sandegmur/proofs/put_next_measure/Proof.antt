@@ -19,7 +19,9 @@ put-measure-requires : tie.Need-put-measure-requires
 put-measure-requires c κs = search needs
 
 after-measure-requires : tie.Need-after-measure-requires
-after-measure-requires c κs = let f = c .before .before .before .before .before .before .before .before .before .before .before .before .before .pre .0 in omega (arith, f .low, f .plant-low, f .measure-low)
+after-measure-requires c κs =
+    let f = c .before .before .before .before .before .before .before .before .before .before .before .before .before .pre .fits in
+    omega (arith, f .low, f .plant-low, f .measure-low)
 
 enum-known-number : tie.Need-enum-known-number
 enum-known-number c = search needs
@@ -28,7 +30,9 @@ put-refused-requires : tie.Need-put-refused-requires
 put-refused-requires c κs = search needs
 
 after-refusal-requires : tie.Need-after-refusal-requires
-after-refusal-requires c κs = let f = c .before .before .before .before .before .before .before .before .before .before .before .before .pre .0 in omega (arith, f .low, f .plant-low, f .measure-low)
+after-refusal-requires c κs =
+    let f = c .before .before .before .before .before .before .before .before .before .before .before .before .pre .fits in
+    omega (arith, f .low, f .plant-low, f .measure-low)
 
 same-length : tie.Need-same-length
 same-length c = search needs
@@ -38,11 +42,17 @@ same-length-2 c = search needs
 
 returns : tie.Need-returns
 returns c =
-    let b = c .before .before .before .before .before .before .before .before .before .before .before .before .before .before in let a = b .args in let s = c .before .before .before .before .before .before .before .before .before .before .settle in let m = c .before .before .before .put-measure in let x = c .before .before .before .before .before .before .before .count .given in
-    let g = was-given (a .archive .now) (a .cursor .p) (a .cursor .k) (a .list .now) (s .last .1 .1 .1 .0) (s .result) (s .ensures) (b .pre .0 .size) _ _ _ (x .1) in
-    given-advances (a .archive .now) (a .cursor) (a .list .now) (b .pre .0) (b .pre .1) (b .pre .2) _ _ (m .result) (omega arith) (m .ensures .1)
-    (g .settlement) (g .is) _ _ _ (s .last .1 .1 .1 .0) (g .count-is) (g .total-is) (g .links-are) (g .leaves) (c .after-measure .result) (s .kept .1 .1 .1 .0)
-    (writes-held (λ (z : ℤ). textOf (measureLine (a .cursor .p) (a .cursor .k) (x .0 .0) z (x .0 .1 .1 .0))) (x .0 .1 .0 .0) (sfits-of (c .before .before .before .before .struct-told .given .0 .1)) (m .ensures .0))
+    let m = c .before .before .before in
+    let told = m .before in
+    let x = told .before .before .before .count .given in
+    let s = told .before .before .before .before .before .before in
+    let b = s .before .before .before .before in
+    let a = b .args in
+    let list′ = s .settle .last .1 .1 .1 .0 in
+    let g = was-given (a .archive .now) (a .cursor .p) (a .cursor .k) (a .list .now) list′ (s .settle .result) (s .settle .ensures) (b .pre .fits .size) _ _ _ (x .1) in
+    given-advances (a .archive .now) (a .cursor) (a .list .now) (b .pre .fits) (b .pre .written) (b .pre .unfinished) _ _ (m .put-measure .result) (omega arith) (m .put-measure .ensures .1)
+    (g .settlement) (g .is) _ _ _ list′ (g .count-is) (g .total-is) (g .links-are) (g .leaves) (c .after-measure .result) (s .settle .kept .1 .1 .1 .0)
+    (writes-held (λ (z : ℤ). textOf (measureLine (a .cursor .p) (a .cursor .k) (x .0 .0) z (x .0 .1 .1 .0))) (x .0 .1 .0 .0) (sfits-of (told .struct-told .given .0 .1)) (m .put-measure .ensures .0))
     (c .after-measure .ensures)
 
 same-length-3 : tie.Need-same-length-3
@@ -53,11 +63,15 @@ same-length-4 c = search needs
 
 returns-2 : tie.Need-returns-2
 returns-2 c =
-    let b = c .before .before .before .before .before .before .before .before .before .before .before .before .before in let a = b .args in let s = c .before .before .before .before .before .before .before .before .before .settle in let m = c .before .before .before .put-refused in let x = c .before .before .before .before .before .before .number .given in
-    let g = was-refused (a .archive .now) (a .cursor .p) (a .cursor .k) (a .list .now) (s .last .1 .1 .1 .0) (s .result) (s .ensures) (b .pre .0 .size) _ (x .1) in
+    let m = c .before .before .before in
+    let x = m .before .before .before .number .given in
+    let s = m .before .before .before .before .before .before in
+    let b = s .before .before .before .before in
+    let a = b .args in
+    let g = was-refused (a .archive .now) (a .cursor .p) (a .cursor .k) (a .list .now) (s .settle .last .1 .1 .1 .0) (s .settle .result) (s .settle .ensures) (b .pre .fits .size) _ (x .1) in
     advances-kept (g .kept)
-    (refused-advances (a .archive .now) (a .cursor) (a .list .now) (b .pre .0) (b .pre .1) (b .pre .2) _ _ (m .result) (omega arith) (m .ensures .1) _
-    (c .after-refusal .result) (g .is) (m .ensures .0) (c .after-refusal .ensures))
+    (refused-advances (a .archive .now) (a .cursor) (a .list .now) (b .pre .fits) (b .pre .written) (b .pre .unfinished) _ _ (m .put-refused .result) (omega arith) (m .put-refused .ensures .1) _
+    (c .after-refusal .result) (g .is) (m .put-refused .ensures .0) (c .after-refusal .ensures))
 
 pub put-next-measure-spec : {M : Type 1} → statement M
 put-next-measure-spec =

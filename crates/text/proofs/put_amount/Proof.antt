@@ -17,7 +17,10 @@ same-length c = search needs
 
 returns : tie.Need-returns
 returns c =
-    (writes-on (c .before .before .before .before .before .before .put-byte .ensures .0) (writes-held signedDecimal _ (c .before .before .before .before .before .before .before .before .before .fits .z) (c .before .before .put-signed .ensures .0)) (omega arith), omega arith)
+    let z = c .before .before in
+    let first = z .before .before .before .before in
+    let start = first .before .before .before in
+    (writes-on (first .put-byte .ensures .0) (writes-held signedDecimal _ (start .fits .z) (z .put-signed .ensures .0)) (omega arith), omega arith)
 
 pub put-amount-spec : {M : Type 1} → statement M
 put-amount-spec = tie.close (tie.spec put-byte-requires put-signed-requires same-length returns)

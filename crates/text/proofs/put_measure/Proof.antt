@@ -33,16 +33,24 @@ same-length : tie.Need-same-length
 same-length c = search needs
 
 returns : tie.Need-returns
-returns c = (
-  (writes-on (c .before .before .before .before .before .before .before .before .before .before .before .before .before .before .before .before .before .before .before .before .before .before .before .before .before .before .put-byte .ensures .0)
-      (writes-on (c .before .before .before .before .before .before .before .before .before .before .before .before .before .before .before .before .before .before .before .before .before .before .put-number .ensures .0)
-      (writes-on (c .before .before .before .before .before .before .before .before .before .before .before .before .before .before .before .before .before .before .put-number2 .ensures .0)
-      (writes-on (c .before .before .before .before .before .before .before .before .before .before .before .before .before .before .put-number3 .ensures .0)
-      (writes-on (writes-held (λ (z : ℤ). 32 ∷ signedDecimal z) _ (c .before .before .before .before .before .before .before .before .before .before .before .before .before .before .before .before .before .before .before .before .before .before .before .before .before .before .before .before .before .fits .total) (c .before .before .before .before .before .before .before .before .before .before .put-amount .ensures .0))
-      (writes-on (c .before .before .before .before .before .before .put-number4 .ensures .0)
-      (c .before .before .put-byte2 .ensures .0) (omega arith)) (omega arith)) (omega arith)) (omega arith)) (omega arith)) (omega arith)),
-  omega arith,
-)
+returns c =
+    let end = c .before .before in
+    let links = end .before .before .before .before in
+    let total = links .before .before .before .before in
+    let count = total .before .before .before .before in
+    let k = count .before .before .before .before in
+    let p = k .before .before .before .before in
+    let first = p .before .before .before .before in
+    let start = first .before .before .before in (
+      writes-on (first .put-byte .ensures .0)
+          (writes-on (p .put-number .ensures .0)
+          (writes-on (k .put-number2 .ensures .0)
+          (writes-on (count .put-number3 .ensures .0)
+          (writes-on (writes-held (λ (z : ℤ). 32 ∷ signedDecimal z) _ (start .fits .total) (total .put-amount .ensures .0))
+          (writes-on (links .put-number4 .ensures .0)
+          (end .put-byte2 .ensures .0) (omega arith)) (omega arith)) (omega arith)) (omega arith)) (omega arith)) (omega arith),
+      omega arith,
+    )
 
 pub put-measure-spec : {M : Type 1} → statement M
 put-measure-spec =

@@ -16,7 +16,8 @@ same-length c = search needs
 
 returns : tie.Need-returns
 returns c =
-    (writes-on (c .before .before .before .before .before .before .put-byte .ensures .0) (c .before .before .put-decimal .ensures .0) (omega arith), omega arith)
+    let n = c .before .before in
+    (writes-on (n .before .before .before .before .put-byte .ensures .0) (n .put-decimal .ensures .0) (omega arith), omega arith)
 
 pub put-number-spec : {M : Type 1} → statement M
 put-number-spec = tie.close (tie.spec put-byte-requires put-decimal-requires same-length returns)

@@ -25,7 +25,17 @@ same-length c = search needs
 
 returns : tie.Need-returns
 returns c =
-    (writes-on (c .before .before .before .before .before .before .before .before .before .before .before .before .before .before .put-byte .ensures .0) (writes-on (c .before .before .before .before .before .before .before .before .before .before .put-number .ensures .0) (writes-on (writes-held (λ (z : ℤ). 32 ∷ signedDecimal z) _ (c .before .before .before .before .before .before .before .before .before .before .before .before .before .before .before .before .before .fits .amount) (c .before .before .before .before .before .before .put-amount .ensures .0)) (c .before .before .put-byte2 .ensures .0) (omega arith)) (omega arith)) (omega arith), omega arith)
+    let end = c .before .before in
+    let amount = end .before .before .before .before in
+    let place = amount .before .before .before .before in
+    let first = place .before .before .before .before in
+    let start = first .before .before .before in (
+      writes-on (first .put-byte .ensures .0)
+          (writes-on (place .put-number .ensures .0)
+          (writes-on (writes-held (λ (z : ℤ). 32 ∷ signedDecimal z) _ (start .fits .amount) (amount .put-amount .ensures .0))
+          (end .put-byte2 .ensures .0) (omega arith)) (omega arith)) (omega arith),
+      omega arith,
+    )
 
 pub put-quarter-spec : {M : Type 1} → statement M
 put-quarter-spec =

@@ -24,14 +24,19 @@ same-length : tie.Need-same-length
 same-length c = search needs
 
 returns : tie.Need-returns
-returns c = (
-  (writes-on (c .before .before .before .before .before .before .before .before .before .before .before .before .before .before .before .before .before .before .put-byte .ensures .0)
-      (writes-on (c .before .before .before .before .before .before .before .before .before .before .before .before .before .before .put-number .ensures .0)
-      (writes-on (c .before .before .before .before .before .before .before .before .before .before .put-number2 .ensures .0)
-      (writes-on (c .before .before .before .before .before .before .put-number3 .ensures .0)
-      (c .before .before .put-byte2 .ensures .0) (omega arith)) (omega arith)) (omega arith)) (omega arith)),
-  omega arith,
-)
+returns c =
+    let end = c .before .before in
+    let number = end .before .before .before .before in
+    let k = number .before .before .before .before in
+    let p = k .before .before .before .before in
+    let first = p .before .before .before .before in (
+      writes-on (first .put-byte .ensures .0)
+          (writes-on (p .put-number .ensures .0)
+          (writes-on (k .put-number2 .ensures .0)
+          (writes-on (number .put-number3 .ensures .0)
+          (end .put-byte2 .ensures .0) (omega arith)) (omega arith)) (omega arith)) (omega arith),
+      omega arith,
+    )
 
 pub put-refusal-spec : {M : Type 1} → statement M
 put-refusal-spec =

@@ -19,9 +19,12 @@ same-length c = search needs
 
 returns : tie.Need-returns
 returns c =
-    let s = c .before .before .before .before .before .before .before .before .before .before .before in (
-      writes-minus (s .args .z) (s .fits .z) (c .before .before .before .before .before .before .before .before .if1 .taken) _ (c .before .before .before .before .before .before .before .before .before .magnitude .ensures)
-          (writes-on (c .before .before .before .before .before .before .put-byte .ensures .0) (c .before .before .put-decimal .ensures .0) (omega arith)),
+    let digits = c .before .before in
+    let first = digits .before .before .before .before in
+    let below = first .before .before in
+    let s = below .before .before .before in (
+      writes-minus (s .args .z) (s .fits .z) (below .if1 .taken) _ (below .before .magnitude .ensures)
+          (writes-on (first .put-byte .ensures .0) (digits .put-decimal .ensures .0) (omega arith)),
       omega arith,
     )
 
@@ -33,8 +36,10 @@ same-length-2 c = search needs
 
 returns-2 : tie.Need-returns-2
 returns-2 c =
-    let s = c .before .before .before .before .before .before .before in
-    (writes-plain (s .args .z) (s .fits .z) (c .before .before .before .before .if1 .left) _ (c .before .before .before .before .before .magnitude .ensures) (c .before .before .put-decimal2 .ensures .0), omega arith)
+    let digits = c .before .before in
+    let above = digits .before .before in
+    let s = above .before .before .before in
+    (writes-plain (s .args .z) (s .fits .z) (above .if1 .left) _ (above .before .magnitude .ensures) (digits .put-decimal2 .ensures .0), omega arith)
 
 pub put-signed-spec : {M : Type 1} → statement M
 put-signed-spec =
