@@ -2,7 +2,7 @@
 use mathlib.Core.Path.{_≡_, sym, ap}
 use mathlib.Core.Logic.{_⊎_, ⊎-elim}
 use Prim.Native.Nat.{ℕ, _+_, _*_, _-_, _/_, _%_, _≤_, _<_}
-use native.Mathlib.Nat.{mul-add, add-mul, mul-comm, mul-le-mul-right, lt-of-mul-lt-mul-right, div-eq-of-lt-le, div-le-of-le-mul, div-le-self, div-add-mod', mod-lt}
+use native.Mathlib.Nat.{mul-add, add-mul, lt-of-mul-lt-mul-right, div-eq-of-lt-le, div-le-self, div-add-mod', mod-lt}
 use native.Mathlib.Omega.{arith}
 use mir.Syntax.{w64}
 use mir.Val.{Fits}

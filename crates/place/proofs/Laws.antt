@@ -69,34 +69,39 @@ unwalked place o answer n a t = rw t (go o (sym t ∙ a))
 
 -- by the answer that the code was given for the records' own 32 bytes
 module _ (archive : List ℕ) (used plant measure links : ℕ) (answer : Admitted)
-    (a : answer ≡ admittedAnswer (admitted (take (32 * plant + 32 - 32 * plant) (drop (32 * plant) archive)) (take (32 * measure + 32 - 32 * measure) (drop (32 * measure) archive)))) where
+    (a : answer ≡ admittedAnswer (admitted (take (32 * plant + 32 - 32 * plant) (drop (32 * plant) archive))
+    (take (32 * measure + 32 - 32 * measure) (drop (32 * measure) archive)))) where
   abbrev outcome : Outcome book.Terms
   outcome = admitted (recordAt archive plant) (recordAt archive measure)
 
   answered : answer ≡ admittedAnswer outcome
   answered = a ∙ ap₂ (λ (x y : List ℕ). admittedAnswer (admitted x y)) (record-part archive plant) (record-part archive measure)
 
+  -- the place with these terms, in the code and in the rule book
+  abbrev coded : Terms → Place
+  coded terms = record { used = used; plant = plant; measure = measure; terms = terms; links = links }
+
+  abbrev booked : book.Terms → settle.Place
+  booked terms = record { used = used; plant = entryAt archive plant; measure = entryAt archive measure; terms = terms; links = links }
+
   pub not-admitted : (n : ℕ) → answer ≡ admission.Refused n → Refused n ≡ placedAnswer (admittedAt archive used plant measure links)
   unfolding admittedAt _>>=_
   not-admitted n t = go outcome (sym t ∙ answered)
     where
       go : (o : Outcome book.Terms) → admission.Refused n ≡ admittedAnswer o
-          → Refused n ≡ placedAnswer (o >>= λ terms. given (record { used = used; plant = entryAt archive plant; measure = entryAt archive measure; terms = terms; links = links }))
+          → Refused n ≡ placedAnswer (o >>= λ terms. given (booked terms))
       go (refused k) b = ap Refused (cc)
       go (given x) b = let z : _≡_ {A = ℕ} 0 1 = cc in absurd (omega arith)
 
   pub admitted-with : (terms : Terms) → answer ≡ admission.With terms
-      → At (record { used = used; plant = plant; measure = measure; terms = terms; links = links }) ≡ placedAnswer (admittedAt archive used plant measure links)
+      → At (coded terms) ≡ placedAnswer (admittedAt archive used plant measure links)
   unfolding admittedAt _>>=_
   admitted-with terms t = go outcome (sym t ∙ answered)
     where
       go : (o : Outcome book.Terms) → admission.With terms ≡ admittedAnswer o
-          → At (record { used = used; plant = plant; measure = measure; terms = terms; links = links })
-          ≡ placedAnswer (o >>= λ terms. given (record { used = used; plant = entryAt archive plant; measure = entryAt archive measure; terms = terms; links = links }))
+          → At (coded terms) ≡ placedAnswer (o >>= λ terms. given (booked terms))
       go (refused k) b = let z : _≡_ {A = ℕ} 0 1 = cc in absurd (omega arith)
-      go (given x) b =
-          let i : terms ≡ held x = cc in
-          ap (λ (y : Terms). At (record { used = used; plant = plant; measure = measure; terms = y; links = links })) i
+      go (given x) b = let i : terms ≡ held x = cc in ap (λ (y : Terms). At (coded y)) i
 
 -- ---- the parts of `placeOf`, by the answers that the code was given
 
@@ -172,9 +177,11 @@ module _ (archive : List ℕ) (p k : ℕ) where
           },
         )
       where
+        with : Entry → Entry → settle.Place
+        with a b = record { used = place .used; plant = a; measure = b; terms = place .terms; links = place .links }
+
         whole : (a b : Entry) → a ≡ entryAt archive (a .number) → b ≡ entryAt archive (b .number)
-            → _≡_ {A = settle.Place} (record { used = place .used; plant = a; measure = b; terms = place .terms; links = place .links })
-            (record { used = place .used; plant = entryAt archive (a .number); measure = entryAt archive (b .number); terms = place .terms; links = place .links })
+            → with a b ≡ with (entryAt archive (a .number)) (entryAt archive (b .number))
         whole a b f g = cc
 
 -- the code's answer, taken apart
