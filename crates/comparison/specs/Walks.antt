@@ -1,9 +1,10 @@
 -- The walk along a measure's before-quarters, step by step: what it has gathered.
-use Prim.Native.Nat.{ℕ, _+_, _≤_}
+use Prim.Native.Nat.{ℕ, _+_, _≤_, _<_}
 use mathlib.Core.Path.{_≡_}
 use mathlib.Core.Bool.{true, false, cond}
 use mathlib.Core.List.{List}
 use lib.Dec.{leb, ltb}
+use lib.ListN.{length}
 use Rattle.rules.specs.Outcome.{Outcome, refused, given, _>>=_, _>>_, require}
 use Rattle.rules.specs.Refusals.{badCount, outOfRange}
 use Rattle.rules.specs.Archive.{Entry, chain, beforeKind, firstBefore}
@@ -15,7 +16,7 @@ use Rattle.comparison.specs.declared.Sums.{Sums}
 use Rattle.comparison.specs.declared.Walk.{Walk}
 use Rattle.comparison.specs.declared.Gathered.{Gathered}
 use Rattle.comparison.specs.declared.Gathered.the-variants as gathered
-use Rattle.comparison.specs.Sums.{Choice, Means, taken, Room}
+use Rattle.comparison.specs.Sums.{Choice, Means, Ready, taken, Room}
 
 abbrev pub noSums : Sums
 noSums = record { used = 0; a = 0; b = 0 }
@@ -53,6 +54,13 @@ steppedBy choice w e = stepped choice w (e .bytes)
 pub record RoomIn (w : Walk) : Type 0 where
   pub room : Room (w .sums)
   pub used : w .sums .used ≤ w .count
+
+-- what a step needs
+pub record StepReady (purpose : Purpose) (powers : List ℕ) (w : Walk) (r : List ℕ) : Type 0 where
+  pub ready : Ready purpose powers
+  pub room : RoomIn w
+  pub few : w .count < 65536
+  pub size : length r ≡ 32
 
 -- what the code's step answers
 pub record Stepped (purpose : Purpose) (powers : List ℕ) (w : Walk) (r : List ℕ) (next : Walk) : Type 0 where

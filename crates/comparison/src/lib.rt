@@ -8,9 +8,9 @@ ghost use Rattle.rules.specs.Archive.{linkAt, fieldAt};
 ghost use Rattle.rules.specs.Terms.{Point, beforeOf};
 ghost use Rattle.curve.specs.Tables.{Tabulates};
 ghost use Rattle.place.specs.Places.{meant, Lies};
-ghost use Rattle.comparison.specs.Sums.{Choice, firstFour, firstOne, everyOne, Means, Scaled, Ready};
+ghost use Rattle.comparison.specs.Sums.{Choice, firstFour, firstOne, everyOne, Means, Ready, FourReady, MarkedReady};
 ghost use Rattle.comparison.specs.Sums.{plus as plusOf, taken, addedAnswer, Room, RoomFor, RoomAdded};
-ghost use Rattle.comparison.specs.Walks.{RoomIn, Stepped, passed as passedOf, gatheredOf, gatheredAnswer, RoomGathered};
+ghost use Rattle.comparison.specs.Walks.{RoomIn, StepReady, Stepped, passed as passedOf, gatheredOf, gatheredAnswer, RoomGathered};
 use chains::Link;
 use curve::Curve;
 use place::Place;
@@ -81,9 +81,7 @@ fn plus(sums: Sums, a: u64, b: u64) -> Sums
 
 // For wind Spitz. 10 × measured ≥ Pn is tested on the raised power.
 fn add_four(pn: Watt, curve: Curve, powers: &[u32], sums: Sums, r: &[u8]) -> Added
-    requires { ⌜ Scaled pn (now powers) ⌝ }
-    requires { ⌜ Room sums ⌝ }
-    requires { ⌜ length (now r) ≡ 32 ⌝ }
+    requires { ⌜ FourReady pn (now powers) sums (now r) ⌝ }
     ensures { λ t. ⌜ ((points : List Point) → Tabulates curve (now (powers .entry)) points
         → t ≡ addedAnswer (taken (firstFour (orZero (pn .0)) points) sums (beforeOf (now (r .entry)))))
         × RoomAdded sums t ⌝ }
@@ -148,9 +146,7 @@ fn add_all(sums: Sums, r: &[u8]) -> Added
 
 // A marked one, by the purpose.
 fn add_marked(purpose: Purpose, powers: &[u32], sums: Sums, r: &[u8]) -> Added
-    requires { ⌜ Ready purpose (now powers) ⌝ }
-    requires { ⌜ Room sums ⌝ }
-    requires { ⌜ (sums .used < 96) × (length (now r) ≡ 32) ⌝ }
+    requires { ⌜ MarkedReady purpose (now powers) sums (now r) ⌝ }
     ensures { λ t. ⌜ ((choice : Choice) → Means purpose (now (powers .entry)) choice
         → t ≡ addedAnswer (taken choice sums (beforeOf (now (r .entry)))))
         × RoomAdded sums t ⌝ }
@@ -166,9 +162,7 @@ fn add_marked(purpose: Purpose, powers: &[u32], sums: Sums, r: &[u8]) -> Added
 
 // One more before-quarter. Once a field is out of range, or above 96, no more is added: 9 or 8 is the answer then.
 fn step(purpose: Purpose, powers: &[u32], walk: Walk, r: &[u8]) -> Walk
-    requires { ⌜ Ready purpose (now powers) ⌝ }
-    requires { ⌜ RoomIn walk ⌝ }
-    requires { ⌜ (walk .count < 65536) × (length (now r) ≡ 32) ⌝ }
+    requires { ⌜ StepReady purpose (now powers) walk (now r) ⌝ }
     ensures { λ next. ⌜ Stepped purpose (now (powers .entry)) walk (now (r .entry)) next ⌝ }
 {
     let mut next = walk;

@@ -33,7 +33,8 @@ fn on_basis(
 ) -> Prepared
     requires { ⌜ Lies (now archive) place ⌝ }
     requires { ⌜ Grounded basis (now powers) ⌝ }
-    ensures { λ r. ⌜ PreparesOn (now (archive .entry)) (meant (now (archive .entry)) place) basis (now (powers .entry)) (now (sheet .exit)) r ⌝ }
+    ensures { λ r. ⌜ PreparesOn (now (archive .entry)) (meant (now (archive .entry)) place) basis
+        (now (powers .entry)) (now (sheet .exit)) r ⌝ }
 {
     let reference = basis.reference;
     match quarters::walk(archive, place, reference, powers, sheet) {

@@ -12,7 +12,7 @@ returns : tie.Need-returns
 returns c =
     let p = c .before .before .before .before in
     let a = p .args in
-    ((λ points t. four-full (a .sums) (a .r .now) (orZero (a .pn .0)) points (omega arith)), grown-none (p .pre .1 .0))
+    ((λ points t. four-full (a .sums) (a .r .now) (orZero (a .pn .0)) points (omega arith)), grown-none (p .pre .room))
 
 measured-of-requires : tie.Need-measured-of-requires
 measured-of-requires c κs = search needs
@@ -48,7 +48,7 @@ returns-3 c =
     let p = s .before .before .before .before .before in
     let a = p .args in
     let m = measured (s .measured-of .ensures) (met-test (i .before .in-power-range .ensures) (i .if2 .left)) (power .result) (power .ensures .0) in
-    ((λ points t. four-low (a .sums) (a .r .now) m (orZero (a .pn .0)) points (omega arith) (omega arith)), grown-none (p .pre .1 .0))
+    ((λ points t. four-low (a .sums) (a .r .now) m (orZero (a .pn .0)) points (omega arith) (omega arith)), grown-none (p .pre .room))
 
 weather-of-requires : tie.Need-weather-of-requires
 weather-of-requires c κs = search needs
@@ -101,7 +101,7 @@ returns-5 c =
       (λ points t. four-used (a .sums) (a .r .now) m (w .weather-of .ensures .0) (orZero (a .pn .0)) points (omega arith) (omega arith) speed
           (v .speed-of .ensures .0) (on-curve .ensures ∙ ap orZero (read .is points t)) (c .plus .ensures)),
       grown-one (c .plus .ensures)
-          (record { room = p .pre .1 .0; few = omega arith; low-a = power .ensures .1; low-b = omega (arith, on-curve .ensures, read .low) }),
+          (record { room = p .pre .room; few = omega arith; low-a = power .ensures .1; low-b = omega (arith, on-curve .ensures, read .low) }),
     )
 
 pub add-four-spec : {M : Type 1} → statement M

@@ -10,7 +10,7 @@ enum-known-purpose c = search needs
 add-four-requires : tie.Need-add-four-requires
 add-four-requires c κs =
     let p = c .before .before .before .before .before .pre in
-    (scaled (c .before .purpose .given .1) (p .0), (p .1 .0, p .1 .1 .1))
+    record { scaled = scaled (c .before .purpose .given .1) (p .ready); room = p .room; size = p .size }
 
 enum-told : tie.Need-enum-told
 enum-told c = search needs

@@ -108,7 +108,7 @@ step-requires c κs =
     let m = met-at s in
     let p = s .before .before .before .before .before .before .before .before .before .pre in
     let i = s .before .before .before .before .before .loop .inv in
-    (p .1, (i .room, (omega arith, part-size _ (c .step-arg .given .2))))
+    record { ready = p .1; room = i .room; few = omega arith; size = part-size _ (c .step-arg .given .2) }
 
 link-of-requires-2 : tie.Need-link-of-requires-2 Inv-loop μ-loop
 link-of-requires-2 c κs = let s = c .before .before in (end-within (met-at s .below) (s .before .before .before .before .before .before .before .before .before .pre .0 .room), lit≤ tt)

@@ -17,7 +17,7 @@ returns c =
     let a = p .args in
     record {
       is = λ choice t. step-skipped choice (a .walk) (a .r .now) (not-true _ (c .if1 .taken));
-      room = room-kept (a .walk) (p .pre .1 .0) (a .walk .fine);
+      room = room-kept (a .walk) (p .pre .room) (a .walk .fine);
       count = refl;
     }
 
@@ -31,7 +31,7 @@ returns-2 c =
     let a = p .args in
     record {
       is = λ choice t. step-bad choice (a .walk) (a .r .now) (not-false _ (i .if1 .left)) (omega arith);
-      room = room-kept (a .walk) (p .pre .1 .0) false;
+      room = room-kept (a .walk) (p .pre .room) false;
       count = refl;
     }
 
@@ -42,7 +42,7 @@ returns-3 c =
     let a = p .args in
     record {
       is = λ choice t. step-unmarked choice (a .walk) (a .r .now) (not-false _ (i .if1 .left)) (omega arith) (λ one. omega arith);
-      room = room-kept (a .walk) (p .pre .1 .0) (a .walk .fine);
+      room = room-kept (a .walk) (p .pre .room) (a .walk .fine);
       count = refl;
     }
 
@@ -53,15 +53,15 @@ returns-4 c =
     let a = p .args in
     record {
       is = λ choice t. step-over choice (a .walk) (a .r .now) (not-false _ (i .if1 .left)) (omega arith) (omega arith);
-      room = room-kept (a .walk) (p .pre .1 .0) (a .walk .fine);
+      room = room-kept (a .walk) (p .pre .room) (a .walk .fine);
       count = refl;
     }
 
 add-marked-requires : tie.Need-add-marked-requires
 add-marked-requires c κs =
     let p = c .before .before .before .before .before .before .before .before .before .before in
-    let h = p .pre .1 in
-    (p .pre .0, (h .0 .room, (room-used (p .args .walk) (h .0) (omega arith), h .1 .1)))
+    let h = p .pre in
+    record { ready = h .ready; room = h .room .room; few = room-used (p .args .walk) (h .room) (omega arith); size = h .size }
 
 enum-known-sums : tie.Need-enum-known-sums
 enum-known-sums c = search needs
@@ -78,7 +78,7 @@ returns-5 c =
     let a = p .args in
     record {
       is = λ choice t. step-out choice (a .walk) (a .r .now) (not-false _ (i .if1 .left)) (omega arith) (omega arith) (f .result) (f .ensures .0 choice t) (c .enum-told .given .1);
-      room = room-kept (a .walk) (p .pre .1 .0) false;
+      room = room-kept (a .walk) (p .pre .room) false;
       count = refl;
     }
 
@@ -92,7 +92,7 @@ returns-6 c =
     let e = c .before .sums .given .1 in
     record {
       is = λ choice t. step-to choice (a .walk) (a .r .now) (not-false _ (i .if1 .left)) (omega arith) (omega arith) (f .result) (f .ensures .0 choice t) _ e;
-      room = room-to (a .walk) (p .pre .1 .0) _ (grown-to (a .walk .sums) _ (f .result) e (f .ensures .1));
+      room = room-to (a .walk) (p .pre .room) _ (grown-to (a .walk .sums) _ (f .result) e (f .ensures .1));
       count = refl;
     }
 
