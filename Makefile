@@ -32,7 +32,7 @@ program:
 
 # What the library stands on first, crates of one level beside each other.
 lib:
-	rt check encoding filing prepare
+	rt check booking filing prepare
 	rt staticlib host
 	mkdir -p $(LIB)
 	cp target/staticlib/libhost.a $(LIB)/libsandegmur.a
