@@ -15,7 +15,7 @@ product-fits {a} {b} p q =
     let low′ : b ≤ 4294967295 = omega arith in
     omega (arith, mul-le-mul low low′)
 
-pub high-fits : {a b : ℕ} → a < 2 ^ 32 → b < 2 ^ 32 → a * b / 274877906944 < 2 ^ 32
+pub high-fits : {a b : ℕ} → a < 2 ^ 32 → b < 2 ^ 32 → a * b / 68719476736 < 2 ^ 32
 high-fits p q = omega (arith, product-fits p q)
 
 -- a number by its quotient and remainder

@@ -43,13 +43,13 @@ pub fn inverse_of(denominator: u64, count: usize) -> u64
     (18446744073709551615 >> (up + 1)) / denominator
 }
 
-// By the inverse of d, n / d for most n where that is below 2^25: the bits of n from 6 below d's highest on, times the inverse.
+// By the inverse of d, n / d for most n where that is below 2^27: the bits of n from 4 below d's highest on, times the inverse.
 fn estimate(n: u64, d: u64, inverse: u64) -> u64
     ensures { λ r. ⌜ r < 2 ^ 32 ⌝ }
 {
-    let down = 57 - u64::leading_zeros(d) % 58;
+    let down = 59 - u64::leading_zeros(d) % 60;
     let high = (n >> down) % 4294967296;
-    high * (inverse % 4294967296) >> 38
+    high * (inverse % 4294967296) >> 36
 }
 
 // The estimate, if what is left of n shows it right; a division otherwise.

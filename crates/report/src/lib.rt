@@ -13,7 +13,7 @@ use rules::refusal;
 // The measure to settle next, plant place p and measure place k of an archive of `used` records; the quarters written and all quarters
 // of the measure last settled, whose amounts are in a list beside it; whether the report ends with them; and the bytes written.
 pub struct Cursor {
-    pub used: u64,
+    used: u64,
     pub p: u64,
     pub k: u64,
     pub place: u64,
