@@ -16,13 +16,13 @@ pub struct Curve {
 
 // ---- the curve at a speed
 
-pub enum CurveReading {
+enum CurveReading {
     Below,
     On(Watt),
     Above,
 }
 
-pub fn read_curve(curve: Curve, powers: &[u32], speed: Speed) -> CurveReading
+fn read_curve(curve: Curve, powers: &[u32], speed: Speed) -> CurveReading
     requires { ⌜ Readable (now powers) (speed .0) ⌝ }
     ensures { λ r. ⌜ r ≡ readingAnswer (tableReading curve (now (powers .entry)) (speed .0)) ⌝ }
 {
