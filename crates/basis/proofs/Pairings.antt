@@ -1,6 +1,6 @@
 -- The basis by technology and variant, from the answers of the functions that the code has for it.
 use mathlib.Core.Path.{_≡_, refl, sym, _∙_, ap, subst}
-use mathlib.Core.Bool.{true}
+use mathlib.Core.Bool.{true, false, false≢true}
 use mathlib.Core.List.{List}
 use Prim.Native.Nat.{ℕ}
 use native.Mathlib.Omega.{arith}
@@ -20,11 +20,10 @@ use Rattle.curve.specs.Tables.{Tabulates}
 use Rattle.points.specs.declared.CurveAnswer.{CurveAnswer}
 use Rattle.points.specs.declared.CurveAnswer.the-variants as answer
 use Rattle.points.specs.Answers.{CurveRead}
-use Rattle.terms.specs.declared.Terms.{Terms}
 use Rattle.reference.specs.declared.Reference.the-variants.{ByFactor, AsPlanned}
 use Rattle.basis.specs.declared.Based.{Based}
 use Rattle.basis.specs.declared.Based.the-variants.{On, Refused}
-use Rattle.basis.specs.Bases.{needsCurve, Spare, SpareFor, Finds, windOf}
+use Rattle.basis.specs.Bases.{needsCurve, Finds, windOf}
 use Rattle.basis.proofs.Answers.{finds-refused, finds-given, found-on}
 
 -- ---- wind Spitz
@@ -74,8 +73,16 @@ module _ (archive : List ℕ) (place : Place) (r : CurveAnswer) (powers : List �
 
 -- ---- every pairing
 
-pub spare : {terms : Terms} {powers : List ℕ} → SpareFor terms powers → terms .technology ≡ wind → terms .variant ≡ spitz → Spare powers
-spare {terms} h t v = h .spare (rw (t, v))
+-- a curve is needed in wind Spitz alone
+pub is-wind : (t : Technology) (v : Variant) → needsCurve t v ≡ true → (t ≡ wind) × (v ≡ spitz)
+is-wind wind spitz e = (refl, refl)
+is-wind wind pauschal e = absurd (false≢true e)
+is-wind solar v e = absurd (false≢true e)
+is-wind other v e = absurd (false≢true e)
+
+pub is-pauschal : (t : Technology) (v : Variant) → needsCurve t v ≡ false → t ≡ wind → v ≡ pauschal
+is-pauschal t spitz e w = let f : true ≡ false = rw w at e in absurd (false≢true (sym f))
+is-pauschal t pauschal e w = refl
 
 pub by-told : (archive : List ℕ) (place : Place) (powers : List ℕ) {x t : Technology} {y v : Variant} (based : Based) → x ≡ t → y ≡ v
     → Finds (basisBy t v archive place) powers based → Finds (basisBy x y archive place) powers based

@@ -14,7 +14,6 @@ use Rattle.rules.specs.Settle as settle
 use Rattle.rules.specs.Settle.{beforesOf, marked, windBasis, solarBasis}
 use Rattle.curve.specs.declared.Curve.{Curve}
 use Rattle.curve.specs.Tables.{Low, Tabulates}
-use Rattle.terms.specs.declared.Terms.{Terms}
 use Rattle.reference.specs.References.{Means}
 use Rattle.basis.specs.declared.Basis.{Basis}
 use Rattle.basis.specs.declared.Based.{Based}
@@ -33,9 +32,6 @@ needsCurve other variant = false
 pub record Spare (powers : List ℕ) : Type 0 where
   pub size : length powers ≡ 1001
   pub low : Low powers
-
-pub record SpareFor (terms : Terms) (powers : List ℕ) : Type 0 where
-  pub spare : needsCurve (terms .technology) (terms .variant) ≡ true → Spare powers
 
 -- the powers of a curve of so many points
 pub record CurveAt (powers : List ℕ) (points : ℕ) : Type 0 where
@@ -59,6 +55,10 @@ pub record Found (b : settle.Basis) (powers : List ℕ) (r : Based) : Type 0 whe
 abbrev pub Finds : Outcome settle.Basis → List ℕ → Based → Type 0
 Finds (refused n) powers r = r ≡ Refused n
 Finds (given b) powers r = Found b powers r
+
+-- whatever powers are lent: none is read
+pub record FindsAnyhow (o : Outcome settle.Basis) (r : Based) : Type 0 where
+  pub with : (powers : List ℕ) → Finds o powers r
 
 -- ---- the parts of `basisBy` that the code has as functions, beside `pauschalBasis`
 

@@ -1,10 +1,9 @@
 // The basis of a measure: how its T is found, and the links followed for that (document 01, 'Reference power T').
 ghost use mathlib.Core.Path.{_≡_};
-ghost use Rattle.rules.specs.Settle.{pauschalBasis, basisBy, basisOf};
-ghost use Rattle.rules.specs.declared.Technology.the-variants.{Wind as wind};
-ghost use Rattle.rules.specs.declared.Variant.the-variants.{Spitz as spitz};
+ghost use mathlib.Core.Bool.{true, false};
+ghost use Rattle.rules.specs.Settle.{pauschalBasis, basisOf};
 ghost use Rattle.place.specs.Places.{meant, Lies};
-ghost use Rattle.basis.specs.Bases.{needsCurve, Spare, SpareFor, CurveAt, OnPoints, Finds, solarOf};
+ghost use Rattle.basis.specs.Bases.{needsCurve, Spare, CurveAt, OnPoints, Finds, FindsAnyhow, solarOf};
 use comparison::Gathered;
 use comparison::Purpose;
 use curve::Curve;
@@ -18,8 +17,8 @@ use terms::Terms;
 use units::Irradiance;
 
 pub struct Basis {
-    pub reference: Reference,
     pub links: u64,
+    pub reference: Reference,
 }
 
 pub enum Based {
@@ -43,8 +42,10 @@ pub fn needs_curve(terms: Terms) -> bool
     }
 }
 
+// ---- on the curve
+
 // Wind Spitz, on a curve of so many points: 11, then 12.
-fn on_curve(archive: &[u8], place: Place, curve: Curve, powers: &[u32], points: u64) -> Based
+fn compared(archive: &[u8], place: Place, curve: Curve, powers: &[u32], points: u64) -> Based
     requires { ⌜ Lies (now archive) place ⌝ }
     requires { ⌜ CurveAt (now powers) points ⌝ }
     ensures { λ r. ⌜ OnPoints (now (archive .entry)) (meant (now (archive .entry)) place) curve (now (powers .entry)) points r ⌝ }
@@ -60,9 +61,10 @@ fn on_curve(archive: &[u8], place: Place, curve: Curve, powers: &[u32], points: 
             }
             let a = units::lowered(four.sums.a, 4000000000);
             let b = units::lowered(four.sums.b, 0);
+            let links = points + four.count;
             let basis = Basis {
+                links,
                 reference: Reference::OnCurve(a, b, pn, curve),
-                links: points + four.count,
             };
             Based::On(basis)
         }
@@ -70,32 +72,35 @@ fn on_curve(archive: &[u8], place: Place, curve: Curve, powers: &[u32], points: 
     }
 }
 
-// Wind Spitz: the curve's points, then the before-quarters.
-fn wind(archive: &[u8], place: Place, powers: &mut [u32]) -> Based
+// Where a curve is needed: its points, whose powers by speed are left in `powers`, a table of zeros; then the before-quarters.
+pub fn on_curve(archive: &[u8], place: Place, powers: &mut [u32]) -> Based
     requires { ⌜ Lies (now archive) place ⌝ }
-    requires { ⌜ Spare (now powers) ⌝ }
-    ensures { λ r. ⌜ Finds (basisBy wind spitz (now (archive .entry)) (meant (now (archive .entry)) place)) (now (powers .exit)) r ⌝ }
+    requires { ⌜ (needsCurve (place .terms .technology) (place .terms .variant) ≡ true) × Spare (now powers) ⌝ }
+    ensures { λ r. ⌜ Finds (basisOf (now (archive .entry)) (meant (now (archive .entry)) place)) (now (powers .exit)) r ⌝ }
 {
     match points::read_points(archive, place, powers) {
         CurveAnswer::Refused(n) => Based::Refused(n),
-        CurveAnswer::Read(curve, points) => on_curve(archive, place, curve, powers, points),
+        CurveAnswer::Read(curve, points) => compared(archive, place, curve, powers, points),
     }
 }
 
+// ---- off the curve
+
 // Wind and other Pauschal: 11.
-fn pauschal(archive: &[u8], place: Place, powers: &[u32]) -> Based
+fn pauschal(archive: &[u8], place: Place) -> Based
     requires { ⌜ Lies (now archive) place ⌝ }
-    ensures { λ r. ⌜ Finds (pauschalBasis (now (archive .entry)) (meant (now (archive .entry)) place)) (now (powers .entry)) r ⌝ }
+    ensures { λ r. ⌜ FindsAnyhow (pauschalBasis (now (archive .entry)) (meant (now (archive .entry)) place)) r ⌝ }
 {
-    match comparison::gather(archive, place, Purpose::First, powers) {
+    let no_powers = [0u32; 0];
+    match comparison::gather(archive, place, Purpose::First, &no_powers) {
         Gathered::Of(first) => {
             if first.sums.used == 0 {
                 return Based::Refused(refusal::TOO_FEW_USABLE);
             }
             let p0 = units::lowered(first.sums.a, 1000000000);
             let basis = Basis {
-                reference: Reference::LastMeasured(p0),
                 links: first.count,
+                reference: Reference::LastMeasured(p0),
             };
             Based::On(basis)
         }
@@ -104,11 +109,12 @@ fn pauschal(archive: &[u8], place: Place, powers: &[u32]) -> Based
 }
 
 // Solar Spitz: 11, then 12.
-fn solar(archive: &[u8], place: Place, powers: &[u32]) -> Based
+fn solar(archive: &[u8], place: Place) -> Based
     requires { ⌜ Lies (now archive) place ⌝ }
-    ensures { λ r. ⌜ Finds (solarOf (now (archive .entry)) (meant (now (archive .entry)) place)) (now (powers .entry)) r ⌝ }
+    ensures { λ r. ⌜ FindsAnyhow (solarOf (now (archive .entry)) (meant (now (archive .entry)) place)) r ⌝ }
 {
-    match comparison::gather(archive, place, Purpose::All, powers) {
+    let no_powers = [0u32; 0];
+    match comparison::gather(archive, place, Purpose::All, &no_powers) {
         Gathered::Of(all) => {
             if all.sums.used == 0 {
                 return Based::Refused(refusal::TOO_FEW_USABLE);
@@ -118,8 +124,8 @@ fn solar(archive: &[u8], place: Place, powers: &[u32]) -> Based
             }
             let a = units::lowered(all.sums.a, 1000000000 * all.sums.used);
             let basis = Basis {
-                reference: Reference::OnIrradiance(a, Irradiance(all.sums.b)),
                 links: all.count,
+                reference: Reference::OnIrradiance(a, Irradiance(all.sums.b)),
             };
             Based::On(basis)
         }
@@ -127,28 +133,24 @@ fn solar(archive: &[u8], place: Place, powers: &[u32]) -> Based
     }
 }
 
-// By technology and variant; chains not needed aren't walked. Where a curve is needed, its powers are left in `powers`, a table of
-// zeros; elsewhere that may be empty, and stays.
-pub fn find(archive: &[u8], place: Place, powers: &mut [u32]) -> Based
+// Where no curve is needed, by technology and variant; chains not needed aren't walked.
+pub fn off_curve(archive: &[u8], place: Place) -> Based
     requires { ⌜ Lies (now archive) place ⌝ }
-    requires { ⌜ SpareFor (place .terms) (now powers) ⌝ }
-    ensures { λ r. ⌜ Finds (basisOf (now (archive .entry)) (meant (now (archive .entry)) place)) (now (powers .exit)) r ⌝ }
+    requires { ⌜ needsCurve (place .terms .technology) (place .terms .variant) ≡ false ⌝ }
+    ensures { λ r. ⌜ FindsAnyhow (basisOf (now (archive .entry)) (meant (now (archive .entry)) place)) r ⌝ }
 {
     let terms = place.terms;
     let technology = terms.technology;
     let variant = terms.variant;
     match technology {
-        Technology::Wind => match variant {
-            Variant::Spitz => wind(archive, place, powers),
-            Variant::Pauschal => pauschal(archive, place, powers),
-        },
+        Technology::Wind => pauschal(archive, place),
         Technology::Solar => match variant {
-            Variant::Spitz => solar(archive, place, powers),
+            Variant::Spitz => solar(archive, place),
             Variant::Pauschal => {
                 let pn = terms.nominal;
                 let basis = Basis {
-                    reference: Reference::ByFactor(pn),
                     links: 0,
+                    reference: Reference::ByFactor(pn),
                 };
                 Based::On(basis)
             }
@@ -156,12 +158,12 @@ pub fn find(archive: &[u8], place: Place, powers: &mut [u32]) -> Based
         Technology::Other => match variant {
             Variant::Spitz => {
                 let basis = Basis {
-                    reference: Reference::AsPlanned,
                     links: 0,
+                    reference: Reference::AsPlanned,
                 };
                 Based::On(basis)
             }
-            Variant::Pauschal => pauschal(archive, place, powers),
+            Variant::Pauschal => pauschal(archive, place),
         },
     }
 }

@@ -1,7 +1,7 @@
 // Every test of a measure but that of the lent list (document 01, 'Calls on the archive'); its exact magnitudes into a sheet.
-ghost use Rattle.rules.specs.Settle.{settled};
+ghost use Rattle.rules.specs.Settle.{basisOf, settled};
 ghost use Rattle.place.specs.Places.{meant, Lies};
-ghost use Rattle.basis.specs.Bases.{SpareFor};
+ghost use Rattle.basis.specs.Bases.{Finds};
 ghost use Rattle.prepare.specs.Answers.{Grounded, PreparesOn, Prepares, settledAt};
 use basis::Based;
 use basis::Basis;
@@ -53,19 +53,25 @@ fn on_basis(
     }
 }
 
-// The basis, then the quarters on it; `powers` has a place for the power at each speed where the basis needs a curve.
-fn with_powers(archive: &[u8], place: Place, powers: &mut [u32], sheet: &mut [u64]) -> Prepared
+// The quarters on the basis that was found.
+fn on_based(
+    archive: &[u8],
+    place: Place,
+    based: Based,
+    powers: &[u32],
+    sheet: &mut [u64],
+) -> Prepared
     requires { ⌜ Lies (now archive) place ⌝ }
-    requires { ⌜ SpareFor (place .terms) (now powers) ⌝ }
+    requires { ⌜ Finds (basisOf (now archive) (meant (now archive) place)) (now powers) based ⌝ }
     ensures { λ r. ⌜ Prepares (settledAt (now (archive .entry)) (meant (now (archive .entry)) place)) (now (sheet .exit)) r ⌝ }
 {
-    match basis::find(archive, place, powers) {
+    match based {
         Based::Refused(n) => Prepared::Refused(n),
         Based::On(basis) => on_basis(archive, place, basis, powers, sheet),
     }
 }
 
-// The exact magnitudes into the sheet, as far as it has places: 1 to 12.
+// The exact magnitudes into the sheet, as far as it has places: 1 to 12. Where the basis needs a curve, its powers by speed have a table here.
 pub fn prepare(archive: &[u8], p: u64, k: u64, sheet: &mut [u64]) -> Prepared
     ensures { λ r. ⌜ Prepares (settled (now (archive .entry)) p k) (now (sheet .exit)) r ⌝ }
 {
@@ -75,10 +81,12 @@ pub fn prepare(archive: &[u8], p: u64, k: u64, sheet: &mut [u64]) -> Prepared
             let terms = place.terms;
             if basis::needs_curve(terms) {
                 let mut powers = [0u32; 1001];
-                return with_powers(archive, place, &mut powers, sheet);
+                let based = basis::on_curve(archive, place, &mut powers);
+                return on_based(archive, place, based, &powers, sheet);
             }
-            let mut powers = [0u32; 0];
-            with_powers(archive, place, &mut powers, sheet)
+            let based = basis::off_curve(archive, place);
+            let no_powers = [0u32; 0];
+            on_based(archive, place, based, &no_powers, sheet)
         }
     }
 }

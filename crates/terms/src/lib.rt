@@ -13,9 +13,9 @@ use units::Watt;
 
 // Handed on as one value; nothing of plant and measure is read again.
 pub struct Terms {
+    pub nominal: Watt,
     pub technology: Technology,
     pub variant: Variant,
-    pub nominal: Watt,
     pub direction: Direction,
     pub execution: Execution,
 }
@@ -141,9 +141,9 @@ pub fn admit(plant: &[u8], measure: &[u8]) -> Admitted
     let direction = direction_of(measure);
     let execution = execution_of(measure);
     Admitted::With(Terms {
+        nominal,
         technology,
         variant,
-        nominal,
         direction,
         execution,
     })

@@ -1,96 +1,66 @@
 -- `basis::on_curve` meets its contract.
-use mathlib.Core.Path.{refl}
 use native.Mathlib.Omega.{arith}
+use Rattle.rules.specs.Settle.{pointsOf}
+use Rattle.rules.proofs.Bounds.{points-few}
 use Rattle.place.specs.Places.{meant}
-use Rattle.rules.specs.Numbers.{orZero}
-use Rattle.basis.proofs.Answers.{wind-is, based-refused, based-of, room-of, four-few, four-zero, four-on}
-use Rattle.comparison.specs.Sums.{firstFour}
+use Rattle.basis.specs.declared.Based.the-variants.{Refused}
+use Rattle.basis.proofs.Pairings.{some-points, wind-refused, wind-on, is-wind, by-told}
 use borrow.Author.Needs.{needs}
 use Rattle.basis.proofs.on_curve.Statement.{statement}
 use Rattle.basis.proofs.on_curve.Tie as tie
 
-gather-requires : tie.Need-gather-requires
-gather-requires c κs = search needs
-
-enum-known-four : tie.Need-enum-known-four
-enum-known-four c = search needs
-
-returns : tie.Need-returns
-returns c = let s = c .before .before .before .before .before .before .before .before .before in
-    let a = s .args in
-    let g = c .before .before .before .before .before .gather in
-    let w = c .before .before .before .four .given in
-    record {
-      on = λ points t h. based-of _ (g .result) (g .ensures .0 (firstFour (orZero (a .place .terms .nominal .0)) points) (points, refl, t)) _ _ (wind-is (orZero (a .place .terms .nominal .0)) points (a .archive .now) (meant (a .archive .now) (a .place)) refl) (a .powers .now) (w .0 .0) (w .1) _
-          (four-few _ (w .0 .0 .sums) (a .powers .now) _ points (c .if1 .taken));
-    }
-
-returns-2 : tie.Need-returns-2
-returns-2 c = let s = c .before .before .before .before .before .before .before .before .before .before .before in
-    let a = s .args in
-    let g = c .before .before .before .before .before .before .before .gather in
-    let w = c .before .before .before .before .before .four .given in
-    record {
-      on = λ points t h. based-of _ (g .result) (g .ensures .0 (firstFour (orZero (a .place .terms .nominal .0)) points) (points, refl, t)) _ _ (wind-is (orZero (a .place .terms .nominal .0)) points (a .archive .now) (meant (a .archive .now) (a .place)) refl) (a .powers .now) (w .0 .0) (w .1) _
-          (four-zero _ (w .0 .0 .sums) (a .powers .now) _ points (c .before .before .if1 .left) (c .if2 .taken));
-    }
-
-lowered-requires : tie.Need-lowered-requires
-lowered-requires c κs = let s = c .before .before .before .before .before .before .before .before .before .before .before in
-    let a = s .args in
-    let g = c .before .before .before .before .before .before .before .gather in
-    let w = c .before .before .before .before .before .four .given in
-    let room = room-of (g .result) (w .0 .0) (w .1) (g .ensures .1) in
-    (omega (arith, room .0 .room .low-a, room .0 .room .few), omega arith)
-
-lowered-requires-2 : tie.Need-lowered-requires-2
-lowered-requires-2 c κs = let s = c .before .before .before .before .before .before .before .before .before .before .before .before in
-    let a = s .args in
-    let g = c .before .before .before .before .before .before .before .before .gather in
-    let w = c .before .before .before .before .before .before .four .given in
-    let room = room-of (g .result) (w .0 .0) (w .1) (g .ensures .1) in
-    (omega (arith, room .0 .room .low-b, room .0 .room .few), omega arith)
-
-add-t17 : tie.Need-add-t17
-add-t17 c = let s = c .before .before .before .before .before .before .before .before .before .before .before .before .before .before in
-    let a = s .args in
-    let g = c .before .before .before .before .before .before .before .before .before .before .gather in
-    let w = c .before .before .before .before .before .before .before .before .four .given in
-    let room = room-of (g .result) (w .0 .0) (w .1) (g .ensures .1) in
-    omega (arith, s .pre .1 .few, room .1)
+read-points-requires : tie.Need-read-points-requires
+read-points-requires c κs = search needs
 
 enum-known-n : tie.Need-enum-known-n
 enum-known-n c = search needs
 
-returns-3 : tie.Need-returns-3
-returns-3 c = let s = c .before .before .before .before .before .before .before .before .before .before .before .before .before .before in
-    let a = s .args in
-    let g = c .before .before .before .before .before .before .before .before .before .before .gather in
-    let w = c .before .before .before .before .before .before .before .before .four .given in
-    record {
-      on = λ points t h. based-of _ (g .result) (g .ensures .0 (firstFour (orZero (a .place .terms .nominal .0)) points) (points, refl, t)) _ _ (wind-is (orZero (a .place .terms .nominal .0)) points (a .archive .now) (meant (a .archive .now) (a .place)) refl) (a .powers .now) (w .0 .0) (w .1) _
-          (rw h (four-on _ (w .0 .0 .sums) (a .powers .now) _ points (c .before .before .before .before .before .if1 .left) (c .before .before .before .if2 .left) (c .before .before .lowered .result) (c .before .lowered2 .result) (a .place .terms .nominal) (a .curve) t
-          (c .before .before .lowered .ensures) (c .before .lowered2 .ensures) (s .pre .0 .nominal-natural) refl));
-    }
+enum-known-curve : tie.Need-enum-known-curve
+enum-known-curve c = search needs
 
-returns-4 : tie.Need-returns-4
-returns-4 c = let s = c .before .before .before .before .before .before .before in
+compared-requires : tie.Need-compared-requires
+compared-requires c κs = let s = c .before .before .before .before .before .before .before .before .before .before in
     let a = s .args in
-    let g = c .before .before .before .gather in
-    let w = c .before .n .given in
-    record { on = λ points t h. based-refused _ (g .result) (g .ensures .0 (firstFour (orZero (a .place .terms .nominal .0)) points) (points, refl, t)) _ _ (wind-is (orZero (a .place .terms .nominal .0)) points (a .archive .now) (meant (a .archive .now) (a .place)) refl) (a .powers .now) (w .0 .0) (w .1) }
+    let p = c .before .before .before .before .before .before .read-points in
+    let q = some-points (pointsOf (a .archive .now) (meant (a .archive .now) (a .place))) (p .result) _ (p .ensures) _ _ (c .before .before .curve .given .1) in (
+      s .pre .0,
+      record {
+        size = q .tabulates .size;
+        low = q .tabulates .low;
+        few = omega (arith, q .count-is, points-few (a .archive .now) (meant (a .archive .now) (a .place)) .of (q .points) (q .are), s .pre .0 .few);
+      },
+    )
+
+same-length : tie.Need-same-length
+same-length c = search needs
+
+returns : tie.Need-returns
+returns c = let s = c .before .before .before .before .before .before .before .before .before in
+    let a = s .args in
+    let p = c .before .before .before .before .before .read-points in
+    let i = is-wind (a .place .terms .technology) (a .place .terms .variant) (s .pre .1 .0) in
+    by-told (a .archive .now) (meant (a .archive .now) (a .place)) _ (Refused _) (i .0) (i .1) (wind-refused (a .archive .now) (meant (a .archive .now) (a .place)) (p .result) _ (p .ensures) _ (c .before .n .given .1))
+
+same-length-2 : tie.Need-same-length-2
+same-length-2 c = search needs
+
+returns-2 : tie.Need-returns-2
+returns-2 c = let s = c .before .before .before .before .before .before .before .before .before .before .before in
+    let a = s .args in
+    let p = c .before .before .before .before .before .before .before .read-points in
+    let i = is-wind (a .place .terms .technology) (a .place .terms .variant) (s .pre .1 .0) in
+    by-told (a .archive .now) (meant (a .archive .now) (a .place)) _ (c .compared .result) (i .0) (i .1)
+    (wind-on (a .archive .now) (meant (a .archive .now) (a .place)) (p .result) _ (p .ensures) _ _ (c .before .before .before .curve .given .1) (c .compared .result) (c .compared .ensures .on))
 
 pub on-curve-spec : {M : Type 1} → statement M
 on-curve-spec =
     tie.close
     (tie.spec
-    gather-requires
-    enum-known-four
-    returns
-    returns-2
-    lowered-requires
-    lowered-requires-2
-    add-t17
+    read-points-requires
     enum-known-n
-    returns-3
-    returns-4)
+    enum-known-curve
+    compared-requires
+    same-length
+    returns
+    same-length-2
+    returns-2)

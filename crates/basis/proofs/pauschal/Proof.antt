@@ -9,6 +9,9 @@ use borrow.Author.Needs.{needs}
 use Rattle.basis.proofs.pauschal.Statement.{statement}
 use Rattle.basis.proofs.pauschal.Tie as tie
 
+slice-aggregate-gather : tie.Need-slice-aggregate-gather
+slice-aggregate-gather c = search needs
+
 gather-requires : tie.Need-gather-requires
 gather-requires c κs = search needs
 
@@ -16,16 +19,13 @@ enum-known-first : tie.Need-enum-known-first
 enum-known-first c = search needs
 
 returns : tie.Need-returns
-returns c = let s = c .before .before .before .before .before .before .before .before in
-    let a = s .args in
+returns c = let a = c .before .before .before .before .before .before .before .before .args in
     let g = c .before .before .before .before .before .gather in
     let w = c .before .before .before .first .given in
-    based-of _ (g .result) (g .ensures .0 (firstOne) refl) _ _ (pauschal-is (a .archive .now) (meant (a .archive .now) (a .place))) (a .powers .now) (w .0 .0) (w .1) _
-    (first-few _ (w .0 .0 .sums) (a .powers .now) (c .if1 .taken))
+    record { with = λ powers. based-of _ (g .result) (g .ensures .0 firstOne refl) _ _ (pauschal-is (a .archive .now) (meant (a .archive .now) (a .place))) powers (w .0 .0) (w .1) _ (first-few _ (w .0 .0 .sums) powers (c .if1 .taken)) }
 
 lowered-requires : tie.Need-lowered-requires
-lowered-requires c κs = let s = c .before .before .before .before .before .before .before .before in
-    let a = s .args in
+lowered-requires c κs = let a = c .before .before .before .before .before .before .before .before .args in
     let g = c .before .before .before .before .before .gather in
     let w = c .before .before .before .first .given in
     let room = room-of (g .result) (w .0 .0) (w .1) (g .ensures .1) in
@@ -35,24 +35,22 @@ enum-known-n : tie.Need-enum-known-n
 enum-known-n c = search needs
 
 returns-2 : tie.Need-returns-2
-returns-2 c = let s = c .before .before .before .before .before .before .before .before .before in
-    let a = s .args in
+returns-2 c = let a = c .before .before .before .before .before .before .before .before .before .args in
     let g = c .before .before .before .before .before .before .gather in
     let w = c .before .before .before .before .first .given in
-    based-of _ (g .result) (g .ensures .0 (firstOne) refl) _ _ (pauschal-is (a .archive .now) (meant (a .archive .now) (a .place))) (a .powers .now) (w .0 .0) (w .1) _
-    (rw (zero-add (w .0 .0 .count)) (first-on _ (w .0 .0 .sums) (a .powers .now) (c .before .if1 .left) (c .lowered .result) (c .lowered .ensures)))
+    record { with = λ powers. based-of _ (g .result) (g .ensures .0 firstOne refl) _ _ (pauschal-is (a .archive .now) (meant (a .archive .now) (a .place))) powers (w .0 .0) (w .1) _ (rw (zero-add (w .0 .0 .count)) (first-on _ (w .0 .0 .sums) powers (c .before .if1 .left) (c .lowered .result) (c .lowered .ensures))) }
 
 returns-3 : tie.Need-returns-3
-returns-3 c = let s = c .before .before .before .before .before .before in
-    let a = s .args in
+returns-3 c = let a = c .before .before .before .before .before .before .args in
     let g = c .before .before .before .gather in
     let w = c .before .n .given in
-    based-refused _ (g .result) (g .ensures .0 firstOne refl) _ _ (pauschal-is (a .archive .now) (meant (a .archive .now) (a .place))) (a .powers .now) (w .0 .0) (w .1)
+    record { with = λ powers. based-refused _ (g .result) (g .ensures .0 firstOne refl) _ _ (pauschal-is (a .archive .now) (meant (a .archive .now) (a .place))) powers (w .0 .0) (w .1) }
 
 pub pauschal-spec : {M : Type 1} → statement M
 pauschal-spec =
     tie.close
     (tie.spec
+    slice-aggregate-gather
     gather-requires
     enum-known-first
     returns

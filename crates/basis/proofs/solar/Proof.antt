@@ -9,6 +9,9 @@ use borrow.Author.Needs.{needs}
 use Rattle.basis.proofs.solar.Statement.{statement}
 use Rattle.basis.proofs.solar.Tie as tie
 
+slice-aggregate-gather : tie.Need-slice-aggregate-gather
+slice-aggregate-gather c = search needs
+
 gather-requires : tie.Need-gather-requires
 gather-requires c κs = search needs
 
@@ -16,32 +19,26 @@ enum-known-all : tie.Need-enum-known-all
 enum-known-all c = search needs
 
 returns : tie.Need-returns
-returns c = let s = c .before .before .before .before .before .before .before .before in
-    let a = s .args in
+returns c = let a = c .before .before .before .before .before .before .before .before .args in
     let g = c .before .before .before .before .before .gather in
     let w = c .before .before .before .all .given in
-    based-of _ (g .result) (g .ensures .0 (everyOne) refl) _ _ (solar-is (a .archive .now) (meant (a .archive .now) (a .place))) (a .powers .now) (w .0 .0) (w .1) _
-    (all-few _ (w .0 .0 .sums) (a .powers .now) (c .if1 .taken))
+    record { with = λ powers. based-of _ (g .result) (g .ensures .0 everyOne refl) _ _ (solar-is (a .archive .now) (meant (a .archive .now) (a .place))) powers (w .0 .0) (w .1) _ (all-few _ (w .0 .0 .sums) powers (c .if1 .taken)) }
 
 returns-2 : tie.Need-returns-2
-returns-2 c = let s = c .before .before .before .before .before .before .before .before .before .before in
-    let a = s .args in
+returns-2 c = let a = c .before .before .before .before .before .before .before .before .before .before .args in
     let g = c .before .before .before .before .before .before .before .gather in
     let w = c .before .before .before .before .before .all .given in
-    based-of _ (g .result) (g .ensures .0 (everyOne) refl) _ _ (solar-is (a .archive .now) (meant (a .archive .now) (a .place))) (a .powers .now) (w .0 .0) (w .1) _
-    (all-zero _ (w .0 .0 .sums) (a .powers .now) (c .before .before .if1 .left) (c .if2 .taken))
+    record { with = λ powers. based-of _ (g .result) (g .ensures .0 everyOne refl) _ _ (solar-is (a .archive .now) (meant (a .archive .now) (a .place))) powers (w .0 .0) (w .1) _ (all-zero _ (w .0 .0 .sums) powers (c .before .before .if1 .left) (c .if2 .taken)) }
 
 mul-lowered : tie.Need-mul-lowered
-mul-lowered c = let s = c .before .before .before .before .before .before .before .before .before .before .before in
-    let a = s .args in
+mul-lowered c = let a = c .before .before .before .before .before .before .before .before .before .before .before .args in
     let g = c .before .before .before .before .before .before .before .before .gather in
     let w = c .before .before .before .before .before .before .all .given in
     let room = room-of (g .result) (w .0 .0) (w .1) (g .ensures .1) in
     omega (arith, room .0 .room .few)
 
 lowered-requires : tie.Need-lowered-requires
-lowered-requires c κs = let s = c .before .before .before .before .before .before .before .before .before .before .before in
-    let a = s .args in
+lowered-requires c κs = let a = c .before .before .before .before .before .before .before .before .before .before .before .args in
     let g = c .before .before .before .before .before .before .before .before .gather in
     let w = c .before .before .before .before .before .before .all .given in
     let room = room-of (g .result) (w .0 .0) (w .1) (g .ensures .1) in
@@ -51,24 +48,22 @@ enum-known-n : tie.Need-enum-known-n
 enum-known-n c = search needs
 
 returns-3 : tie.Need-returns-3
-returns-3 c = let s = c .before .before .before .before .before .before .before .before .before .before .before .before in
-    let a = s .args in
+returns-3 c = let a = c .before .before .before .before .before .before .before .before .before .before .before .before .args in
     let g = c .before .before .before .before .before .before .before .before .before .gather in
     let w = c .before .before .before .before .before .before .before .all .given in
-    based-of _ (g .result) (g .ensures .0 (everyOne) refl) _ _ (solar-is (a .archive .now) (meant (a .archive .now) (a .place))) (a .powers .now) (w .0 .0) (w .1) _
-    (rw (zero-add (w .0 .0 .count)) (all-on _ (w .0 .0 .sums) (a .powers .now) (c .before .before .before .before .if1 .left) (c .before .before .if2 .left) (c .lowered .result) (c .lowered .ensures)))
+    record { with = λ powers. based-of _ (g .result) (g .ensures .0 everyOne refl) _ _ (solar-is (a .archive .now) (meant (a .archive .now) (a .place))) powers (w .0 .0) (w .1) _ (rw (zero-add (w .0 .0 .count)) (all-on _ (w .0 .0 .sums) powers (c .before .before .before .before .if1 .left) (c .before .before .if2 .left) (c .lowered .result) (c .lowered .ensures))) }
 
 returns-4 : tie.Need-returns-4
-returns-4 c = let s = c .before .before .before .before .before .before in
-    let a = s .args in
+returns-4 c = let a = c .before .before .before .before .before .before .args in
     let g = c .before .before .before .gather in
     let w = c .before .n .given in
-    based-refused _ (g .result) (g .ensures .0 everyOne refl) _ _ (solar-is (a .archive .now) (meant (a .archive .now) (a .place))) (a .powers .now) (w .0 .0) (w .1)
+    record { with = λ powers. based-refused _ (g .result) (g .ensures .0 everyOne refl) _ _ (solar-is (a .archive .now) (meant (a .archive .now) (a .place))) powers (w .0 .0) (w .1) }
 
 pub solar-spec : {M : Type 1} → statement M
 solar-spec =
     tie.close
     (tie.spec
+    slice-aggregate-gather
     gather-requires
     enum-known-all
     returns
