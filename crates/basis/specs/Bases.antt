@@ -14,6 +14,7 @@ use Rattle.rules.specs.Settle as settle
 use Rattle.rules.specs.Settle.{beforesOf, marked, windBasis, solarBasis}
 use Rattle.curve.specs.declared.Curve.{Curve}
 use Rattle.curve.specs.Tables.{Low, Tabulates}
+use Rattle.terms.specs.declared.Terms.{Terms}
 use Rattle.reference.specs.References.{Means}
 use Rattle.basis.specs.declared.Basis.{Basis}
 use Rattle.basis.specs.declared.Based.{Based}
@@ -32,6 +33,9 @@ needsCurve other variant = false
 pub record Spare (powers : List ℕ) : Type 0 where
   pub size : length powers ≡ 1001
   pub low : Low powers
+
+pub record SpareFor (terms : Terms) (powers : List ℕ) : Type 0 where
+  pub spare : needsCurve (terms .technology) (terms .variant) ≡ true → Spare powers
 
 -- the powers of a curve of so many points
 pub record CurveAt (powers : List ℕ) (points : ℕ) : Type 0 where

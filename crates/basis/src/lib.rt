@@ -3,7 +3,7 @@ ghost use mathlib.Core.Path.{_≡_};
 ghost use mathlib.Core.Bool.{true, false};
 ghost use Rattle.rules.specs.Settle.{pauschalBasis, basisOf};
 ghost use Rattle.place.specs.Places.{meant, Lies};
-ghost use Rattle.basis.specs.Bases.{needsCurve, Spare, CurveAt, OnPoints, Finds, FindsAnyhow, solarOf};
+ghost use Rattle.basis.specs.Bases.{needsCurve, Spare, SpareFor, CurveAt, OnPoints, Finds, FindsAnyhow, solarOf};
 use comparison::Gathered;
 use comparison::Purpose;
 use curve::Curve;
@@ -72,8 +72,8 @@ fn compared(archive: &[u8], place: Place, curve: Curve, powers: &[u32], points: 
     }
 }
 
-// Where a curve is needed: its points, whose powers by speed are left in `powers`, a table of zeros; then the before-quarters.
-pub fn on_curve(archive: &[u8], place: Place, powers: &mut [u32]) -> Based
+// Where a curve is needed: its points, then the before-quarters.
+fn on_curve(archive: &[u8], place: Place, powers: &mut [u32]) -> Based
     requires { ⌜ Lies (now archive) place ⌝ }
     requires { ⌜ (needsCurve (place .terms .technology) (place .terms .variant) ≡ true) × Spare (now powers) ⌝ }
     ensures { λ r. ⌜ Finds (basisOf (now (archive .entry)) (meant (now (archive .entry)) place)) (now (powers .exit)) r ⌝ }
@@ -134,7 +134,7 @@ fn solar(archive: &[u8], place: Place) -> Based
 }
 
 // Where no curve is needed, by technology and variant; chains not needed aren't walked.
-pub fn off_curve(archive: &[u8], place: Place) -> Based
+fn off_curve(archive: &[u8], place: Place) -> Based
     requires { ⌜ Lies (now archive) place ⌝ }
     requires { ⌜ needsCurve (place .terms .technology) (place .terms .variant) ≡ false ⌝ }
     ensures { λ r. ⌜ FindsAnyhow (basisOf (now (archive .entry)) (meant (now (archive .entry)) place)) r ⌝ }
@@ -166,4 +166,17 @@ pub fn off_curve(archive: &[u8], place: Place) -> Based
             Variant::Pauschal => pauschal(archive, place),
         },
     }
+}
+
+// The basis of a measure. Where it needs a curve, its powers are left in `powers`, a table of zeros; elsewhere that may be empty, and stays.
+pub fn find(archive: &[u8], place: Place, powers: &mut [u32]) -> Based
+    requires { ⌜ Lies (now archive) place ⌝ }
+    requires { ⌜ SpareFor (place .terms) (now powers) ⌝ }
+    ensures { λ r. ⌜ Finds (basisOf (now (archive .entry)) (meant (now (archive .entry)) place)) (now (powers .exit)) r ⌝ }
+{
+    let terms = place.terms;
+    if needs_curve(terms) {
+        return on_curve(archive, place, powers);
+    }
+    off_curve(archive, place)
 }

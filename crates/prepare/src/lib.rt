@@ -71,7 +71,7 @@ fn on_based(
     }
 }
 
-// The exact magnitudes into the sheet, as far as it has places: 1 to 12. Where the basis needs a curve, its powers by speed have a table here.
+// The exact magnitudes into the sheet, as far as it has places: 1 to 12. A basis that needs a curve gets a table for its powers.
 pub fn prepare(archive: &[u8], p: u64, k: u64, sheet: &mut [u64]) -> Prepared
     ensures { λ r. ⌜ Prepares (settled (now (archive .entry)) p k) (now (sheet .exit)) r ⌝ }
 {
@@ -81,11 +81,11 @@ pub fn prepare(archive: &[u8], p: u64, k: u64, sheet: &mut [u64]) -> Prepared
             let terms = place.terms;
             if basis::needs_curve(terms) {
                 let mut powers = [0u32; 1001];
-                let based = basis::on_curve(archive, place, &mut powers);
+                let based = basis::find(archive, place, &mut powers);
                 return on_based(archive, place, based, &powers, sheet);
             }
-            let based = basis::off_curve(archive, place);
-            let no_powers = [0u32; 0];
+            let mut no_powers = [0u32; 0];
+            let based = basis::find(archive, place, &mut no_powers);
             on_based(archive, place, based, &no_powers, sheet)
         }
     }
