@@ -168,7 +168,8 @@ fn off_curve(archive: &[u8], place: Place) -> Based
     }
 }
 
-// The basis of a measure. Where it needs a curve, its powers are left in `powers`, a table of zeros; elsewhere that may be empty, and stays.
+// The basis of a measure. Where it needs a curve, its powers are left in `powers`, a table of zeros; elsewhere that may be empty, and
+// stays.
 pub fn find(archive: &[u8], place: Place, powers: &mut [u32]) -> Based
     requires { ⌜ Lies (now archive) place ⌝ }
     requires { ⌜ SpareFor (place .terms) (now powers) ⌝ }

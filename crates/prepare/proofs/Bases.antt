@@ -1,12 +1,15 @@
 -- From the basis of a measure to its settlement, by the answers that the code was given.
 use mathlib.Core.Path.{_≡_, refl, sym, _∙_, ap, subst}
 use mathlib.Core.List.{List}
-use Prim.Native.Nat.{ℕ, zero, suc, _≤_}
+use Prim.Native.Nat.{ℕ, zero, suc, _-_, _≤_}
 use native.Mathlib.Omega.{arith}
-use lib.ListN.{getD, replicate}
+use lib.ListN.{length, take, drop, getD, replicate}
+use lib.Seq.{take-length}
 use Rattle.rules.specs.Outcome.{Outcome, refused, given, _>>=_}
 use Rattle.rules.specs.Settle.{Place, Basis, placeOf, basisOf, quartersOf, Settlement, settlementOf, settled}
 use Rattle.rules.proofs.Bounds.{NominalLow, basis-basic}
+use Rattle.place.specs.declared.Place as code-place
+use Rattle.place.specs.Places.{meant, Lies}
 use Rattle.reference.proofs.References.{held-by}
 use Rattle.basis.specs.declared.Basis as code
 use Rattle.basis.specs.declared.Based.{Based}
@@ -77,3 +80,16 @@ pub zeros-low : (n i : ℕ) → getD (replicate n 0) i 0 ≤ 1000000000
 zeros-low zero i = omega arith
 zeros-low (suc n) zero = omega arith
 zeros-low (suc n) (suc i) = zeros-low n i
+
+-- the archive lent whole
+whole-part : (archive : List ℕ) → take (length archive - 0) (drop 0 archive) ≡ archive
+whole-part archive = let e : length archive - 0 ≡ length archive = omega arith in rw e (take-length archive)
+
+pub lies-whole : {place : code-place.Place} (archive : List ℕ) → Lies archive place → Lies (take (length archive - 0) (drop 0 archive)) place
+lies-whole {place} archive h = subst (λ (x : List ℕ). Lies x place) (sym (whole-part archive)) h
+
+pub at-whole : (archive : List ℕ) (p k : ℕ) (sheet : List ℕ) (place : code-place.Place) (r : Prepared) → placeOf archive p k ≡ given (meant archive place)
+    → Prepares (settledAt (take (length archive - 0) (drop 0 archive)) (meant (take (length archive - 0) (drop 0 archive)) place)) sheet r
+    → Prepares (settled archive p k) sheet r
+at-whole archive p k sheet place r e h =
+    at-place archive p k sheet (meant archive place) r e (subst (λ (x : List ℕ). Prepares (settledAt x (meant x place)) sheet r) (whole-part archive) h)

@@ -71,22 +71,25 @@ fn on_based(
     }
 }
 
-// The exact magnitudes into the sheet, as far as it has places: 1 to 12. A basis that needs a curve gets a table for its powers.
+// The exact magnitudes into the sheet, as far as it has places: 1 to 12. A basis that needs a curve gets a table for its powers. The
+// archive is lent on as a part of itself, the whole: so the compiler keeps its address in a register.
 pub fn prepare(archive: &[u8], p: u64, k: u64, sheet: &mut [u64]) -> Prepared
     ensures { λ r. ⌜ Prepares (settled (now (archive .entry)) p k) (now (sheet .exit)) r ⌝ }
 {
     match place::find(archive, p, k) {
         Placed::Refused(n) => Prepared::Refused(n),
         Placed::At(place) => {
+            let size = archive.len();
+            let whole = &archive[0..size];
             let terms = place.terms;
             if basis::needs_curve(terms) {
                 let mut powers = [0u32; 1001];
-                let based = basis::find(archive, place, &mut powers);
-                return on_based(archive, place, based, &powers, sheet);
+                let based = basis::find(whole, place, &mut powers);
+                return on_based(whole, place, based, &powers, sheet);
             }
             let mut no_powers = [0u32; 0];
-            let based = basis::find(archive, place, &mut no_powers);
-            on_based(archive, place, based, &no_powers, sheet)
+            let based = basis::find(whole, place, &mut no_powers);
+            on_based(whole, place, based, &no_powers, sheet)
         }
     }
 }
