@@ -1,13 +1,12 @@
 // The exact magnitude of a quarter (document 01, 'Exact magnitude'): its numerator over 4 × D.
 ghost use mathlib.Core.Path.{_≡_};
-ghost use lib.ListN.{length};
 ghost use Rattle.rules.specs.Numbers.{orZero};
 ghost use Rattle.rules.specs.Terms.{quarterOf};
 ghost use Rattle.rules.specs.Reference as book;
 ghost use Rattle.rules.specs.Reference.{magnitude as magnitudeOf};
 ghost use Rattle.terms.specs.Meanings.{meaning};
-ghost use Rattle.reference.specs.References.{Held, Means};
-ghost use Rattle.exact.specs.Exacts.{Room, quarterAnswer};
+ghost use Rattle.reference.specs.References.{Means};
+ghost use Rattle.exact.specs.Exacts.{Room, Ready, quarterAnswer};
 use record::Power;
 use reference::Numerator;
 use reference::Reference;
@@ -38,10 +37,16 @@ pub enum Exact {
     OutOfRange,
 }
 
-// Of a measure's quarter, from its index along the chain and its own 32 bytes.
-pub fn exact_of(terms: Terms, index: u64, reference: Reference, powers: &[u32], r: &[u8]) -> Exact
-    requires { ⌜ Held reference (now powers) ⌝ }
-    requires { ⌜ length (now r) ≡ 32 ⌝ }
+// Of a measure's quarter, from its index along the chain and its own 32 bytes; d is D, which all quarters of a measure share.
+pub fn exact_of(
+    terms: Terms,
+    index: u64,
+    reference: Reference,
+    d: u64,
+    powers: &[u32],
+    r: &[u8],
+) -> Exact
+    requires { ⌜ Ready reference d (now powers) (now r) ⌝ }
     ensures { λ x. ⌜ ((ref : book.Reference) → Means reference (now (powers .entry)) ref
         → x ≡ quarterAnswer (meaning terms) ref (quarterOf (meaning terms) index (now (r .entry)))) ⌝ }
 {
@@ -51,7 +56,6 @@ pub fn exact_of(terms: Terms, index: u64, reference: Reference, powers: &[u32], 
     let Numerator::Of(t) = reference::numerator_of(reference, powers, terms, index, r) else {
         return Exact::OutOfRange;
     };
-    let d = reference::denominator(reference);
     let direction = terms.direction;
     Exact::Of(magnitude(direction, d, t, l))
 }

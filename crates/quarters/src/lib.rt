@@ -53,6 +53,7 @@ pub fn walk(
     requires { ⌜ Held reference (now powers) ⌝ }
     ensures { λ r. ⌜ Walks (now (archive .entry)) place reference (now (powers .entry)) (now (sheet .exit)) r ⌝ }
 {
+    let d = reference::denominator(reference);
     let used = place.used;
     let terms = place.terms;
     let mut last = place.measure;
@@ -70,6 +71,7 @@ pub fn walk(
             terms,
             index,
             reference,
+            d,
             powers,
             &archive[32 * i..32 * i + 32],
         );

@@ -46,37 +46,37 @@ returns-2 c = let s = c .before .before .before .before .before .before .before 
     let q = quarterOf (meaning (a .terms)) (a .index) (a .r .now) in
     λ ref m. exact-unreferred (meaning (a .terms)) ref q (c .before .before .before .before .l .given .1) (c .before .before .before .before .before .before .limit-of .ensures) (c .enum-told2 .given .1) (c .before .before .numerator-of .ensures ref m)
 
-denominator-requires : tie.Need-denominator-requires
-denominator-requires c κs = search needs
-
 magnitude-requires : tie.Need-magnitude-requires
 unfolding quarterOf
-magnitude-requires c κs = let s = c .before .before .before .before .before .before .before .before .before .before .before in
+magnitude-requires c κs = let s = c .before .before .before .before .before .before .before .before .before .before in
     let a = s .args in
     let q = quarterOf (meaning (a .terms)) (a .index) (a .r .now) in
-    let h = s .pre .0 in
+    let h = s .pre .held in
+    let l = c .before .before .before .before .before .l .given in
+    let t = c .before .t .given in
+    let limited = c .before .before .before .before .before .before .before .limit-of .ensures in
     let b = means-bounded (a .reference) (a .powers .now) (h .ref) (h .means) (h .bounded) in
-    let t = referred-small (meaning (a .terms)) (h .ref) q (c .before .before .before .before .before .before .l .given .1) (c .before .before .before .before .before .before .before .before .limit-of .ensures) (c .before .before .t .given .1) (c .before .before .before .before .numerator-of .ensures (h .ref) (h .means)) b in
+    let small = referred-small (meaning (a .terms)) (h .ref) q (l .1) limited (t .1) (c .before .before .before .numerator-of .ensures (h .ref) (h .means)) b in
     record {
-      divisor = c .denominator .ensures .small;
-      reference = subst (λ (z : ℤ). mag z ≤ 4000000000000000000) (sym (back (c .before .before .t .given .0 .0) (omega (arith, t)))) t;
-      limit = limited-small (meaning (a .terms)) (h .ref) q (c .before .before .before .before .before .before .l .given .1) (c .before .before .before .before .before .before .before .before .limit-of .ensures);
+      divisor = s .pre .divides .small;
+      reference = subst (λ (z : ℤ). mag z ≤ 4000000000000000000) (sym (back (t .0 .0) (omega (arith, small)))) small;
+      limit = limited-small (meaning (a .terms)) (h .ref) q (l .1) limited;
     }
 
 returns-3 : tie.Need-returns-3
 unfolding quarterOf
-returns-3 c = let s = c .before .before .before .before .before .before .before .before .before .before .before .before in
+returns-3 c = let s = c .before .before .before .before .before .before .before .before .before .before .before in
     let a = s .args in
     let q = quarterOf (meaning (a .terms)) (a .index) (a .r .now) in
-    let l = c .before .before .before .before .before .before .before .l .given in
-    let t = c .before .before .before .t .given in
-    let limited = c .before .before .before .before .before .before .before .before .before .limit-of .ensures in
+    let l = c .before .before .before .before .before .before .l .given in
+    let t = c .before .before .t .given in
+    let limited = c .before .before .before .before .before .before .before .before .limit-of .ensures in
     λ ref m.
-    let b = means-bounded (a .reference) (a .powers .now) ref m (s .pre .0 .bounded) in
-    let referred = c .before .before .before .before .before .numerator-of .ensures ref m in
-    exact-is (meaning (a .terms)) ref q (l .1) limited (t .1) referred (c .before .denominator .ensures .is (a .powers .now) ref m)
+    let b = means-bounded (a .reference) (a .powers .now) ref m (s .pre .held .bounded) in
+    let referred = c .before .before .before .before .numerator-of .ensures ref m in
+    exact-is (meaning (a .terms)) ref q (l .1) limited (t .1) referred (s .pre .divides .is (a .powers .now) ref m)
     (c .magnitude .ensures
-    ∙ ap (λ (z : ℤ). magnitude (a .terms .direction) (c .before .denominator .result) z (l .0 .0 .0))
+    ∙ ap (λ (z : ℤ). magnitude (a .terms .direction) (a .d) z (l .0 .0 .0))
     (back (t .0 .0) (omega (arith, referred-small (meaning (a .terms)) ref q (l .1) limited (t .1) referred b))))
 
 pub exact-of-spec : {M : Type 1} → statement M
@@ -91,6 +91,5 @@ exact-of-spec =
     enum-known-t
     enum-told-2
     returns-2
-    denominator-requires
     magnitude-requires
     returns-3)
