@@ -13,7 +13,7 @@ use Rattle.rules.specs.Terms.{Point}
 use Rattle.rules.specs.Settle as settle
 use Rattle.rules.specs.Settle.{beforesOf, marked, windBasis, solarBasis}
 use Rattle.curve.specs.declared.Curve.{Curve}
-use Rattle.curve.specs.Tables.{Low, Tabulates}
+use Rattle.curve.specs.Tables.{Low, Spare, Tabulates}
 use Rattle.terms.specs.declared.Terms.{Terms}
 use Rattle.reference.specs.References.{Means}
 use Rattle.basis.specs.declared.Basis.{Basis}
@@ -29,13 +29,10 @@ needsCurve wind pauschal = false
 needsCurve solar variant = false
 needsCurve other variant = false
 
--- a place for the power at every speed
-pub record Spare (powers : List ℕ) : Type 0 where
-  pub size : length powers ≡ 1001
-  pub low : Low powers
-
-pub record SpareFor (terms : Terms) (powers : List ℕ) : Type 0 where
-  pub spare : needsCurve (terms .technology) (terms .variant) ≡ true → Spare powers
+-- what a measure on a curve brings
+pub record ForCurve (terms : Terms) (powers : List ℕ) : Type 0 where
+  pub needs : needsCurve (terms .technology) (terms .variant) ≡ true
+  pub spare : Spare powers
 
 -- the powers of a curve of so many points
 pub record CurveAt (powers : List ℕ) (points : ℕ) : Type 0 where

@@ -1,9 +1,9 @@
 // The basis of a measure: how its T is found, and the links followed for that (document 01, 'Reference power T').
 ghost use mathlib.Core.Path.{_≡_};
-ghost use mathlib.Core.Bool.{true, false};
+ghost use mathlib.Core.Bool.{false};
 ghost use Rattle.rules.specs.Settle.{pauschalBasis, basisOf};
 ghost use Rattle.place.specs.Places.{meant, Lies};
-ghost use Rattle.basis.specs.Bases.{needsCurve, Spare, SpareFor, CurveAt, OnPoints, Finds, FindsAnyhow, solarOf};
+ghost use Rattle.basis.specs.Bases.{needsCurve, ForCurve, CurveAt, OnPoints, Finds, FindsAnyhow, solarOf};
 use comparison::Gathered;
 use comparison::Purpose;
 use curve::Curve;
@@ -72,10 +72,10 @@ fn compared(archive: &[u8], place: Place, curve: Curve, powers: &[u32], points: 
     }
 }
 
-// Where a curve is needed: its points, then the before-quarters.
-fn on_curve(archive: &[u8], place: Place, powers: &mut [u32]) -> Based
+// The basis of a measure that needs a curve: its points, whose powers are left in `powers`, a table of zeros; then the before-quarters.
+pub fn on_curve(archive: &[u8], place: Place, powers: &mut [u32]) -> Based
     requires { ⌜ Lies (now archive) place ⌝ }
-    requires { ⌜ (needsCurve (place .terms .technology) (place .terms .variant) ≡ true) × Spare (now powers) ⌝ }
+    requires { ⌜ ForCurve (place .terms) (now powers) ⌝ }
     ensures { λ r. ⌜ Finds (basisOf (now (archive .entry)) (meant (now (archive .entry)) place)) (now (powers .exit)) r ⌝ }
 {
     match points::read_points(archive, place, powers) {
@@ -133,8 +133,8 @@ fn solar(archive: &[u8], place: Place) -> Based
     }
 }
 
-// Where no curve is needed, by technology and variant; chains not needed aren't walked.
-fn off_curve(archive: &[u8], place: Place) -> Based
+// The basis of a measure that needs no curve, by technology and variant; chains not needed aren't walked.
+pub fn off_curve(archive: &[u8], place: Place) -> Based
     requires { ⌜ Lies (now archive) place ⌝ }
     requires { ⌜ needsCurve (place .terms .technology) (place .terms .variant) ≡ false ⌝ }
     ensures { λ r. ⌜ FindsAnyhow (basisOf (now (archive .entry)) (meant (now (archive .entry)) place)) r ⌝ }
@@ -166,18 +166,4 @@ fn off_curve(archive: &[u8], place: Place) -> Based
             Variant::Pauschal => pauschal(archive, place),
         },
     }
-}
-
-// The basis of a measure. Where it needs a curve, its powers are left in `powers`, a table of zeros; elsewhere that may be empty, and
-// stays.
-pub fn find(archive: &[u8], place: Place, powers: &mut [u32]) -> Based
-    requires { ⌜ Lies (now archive) place ⌝ }
-    requires { ⌜ SpareFor (place .terms) (now powers) ⌝ }
-    ensures { λ r. ⌜ Finds (basisOf (now (archive .entry)) (meant (now (archive .entry)) place)) (now (powers .exit)) r ⌝ }
-{
-    let terms = place.terms;
-    if needs_curve(terms) {
-        return on_curve(archive, place, powers);
-    }
-    off_curve(archive, place)
 }

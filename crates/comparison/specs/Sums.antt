@@ -98,10 +98,15 @@ pub record RoomFor (s : Sums) (a b : ℕ) : Type 0 where
   pub low-a : a ≤ 2000000000
   pub low-b : b ≤ 1000000000
 
--- what a marked before-quarter needs: for wind Spitz, and for any purpose
+-- what a marked before-quarter needs: for wind Spitz, for solar Spitz, and for any purpose
 pub record FourReady (pn : Watt) (powers : List ℕ) (s : Sums) (r : List ℕ) : Type 0 where
   pub scaled : Scaled pn powers
   pub room : Room s
+  pub size : length r ≡ 32
+
+pub record AllReady (s : Sums) (r : List ℕ) : Type 0 where
+  pub room : Room s
+  pub few : s .used < 96
   pub size : length r ≡ 32
 
 pub record MarkedReady (purpose : Purpose) (powers : List ℕ) (s : Sums) (r : List ℕ) : Type 0 where

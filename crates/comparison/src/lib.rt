@@ -8,7 +8,7 @@ ghost use Rattle.rules.specs.Archive.{linkAt, fieldAt};
 ghost use Rattle.rules.specs.Terms.{Point, beforeOf};
 ghost use Rattle.curve.specs.Tables.{Tabulates};
 ghost use Rattle.place.specs.Places.{meant, Lies};
-ghost use Rattle.comparison.specs.Sums.{Choice, firstFour, firstOne, everyOne, Means, Ready, FourReady, MarkedReady};
+ghost use Rattle.comparison.specs.Sums.{Choice, firstFour, firstOne, everyOne, Means, Ready, FourReady, AllReady, MarkedReady};
 ghost use Rattle.comparison.specs.Sums.{plus as plusOf, taken, addedAnswer, Room, RoomFor, RoomAdded};
 ghost use Rattle.comparison.specs.Walks.{RoomIn, StepReady, Stepped, passed as passedOf, gatheredOf, gatheredAnswer, RoomGathered};
 use chains::Link;
@@ -128,8 +128,7 @@ fn add_first(sums: Sums, r: &[u8]) -> Added
 
 // For solar Spitz.
 fn add_all(sums: Sums, r: &[u8]) -> Added
-    requires { ⌜ Room sums ⌝ }
-    requires { ⌜ (sums .used < 96) × (length (now r) ≡ 32) ⌝ }
+    requires { ⌜ AllReady sums (now r) ⌝ }
     ensures { λ t. ⌜ (t ≡ addedAnswer (taken everyOne sums (beforeOf (now (r .entry))))) × RoomAdded sums t ⌝ }
 {
     let measured = measured_of(r);

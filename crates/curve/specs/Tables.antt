@@ -19,6 +19,11 @@ tableReading curve powers speed =
 abbrev pub Low : List ℕ → Type 0
 Low powers = (speed : ℕ) → getD powers speed 0 ≤ 1000000000
 
+-- a place for the power at every speed
+pub record Spare (powers : List ℕ) : Type 0 where
+  pub size : length powers ≡ 1001
+  pub low : Low powers
+
 -- the table says what the curve of these points says, at every speed in range
 pub record Tabulates (curve : Curve) (powers : List ℕ) (points : List Point) : Type 0 where
   pub size : length powers ≡ 1001

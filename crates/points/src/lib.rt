@@ -3,7 +3,7 @@ ghost use mathlib.Core.Path.{_≡_};
 ghost use lib.ListN.{length};
 ghost use Rattle.rules.specs.Settle.{pointsOf};
 ghost use Rattle.place.specs.Places.{meant, Lies};
-ghost use Rattle.curve.specs.Tables.{Low};
+ghost use Rattle.curve.specs.Tables.{Spare};
 ghost use Rattle.curve.specs.Lines.{point};
 ghost use Rattle.points.specs.Answers.{CurveRead};
 ghost use Rattle.points.specs.Steps.{PointFits, RecordFits, walk, withPoint, withRecord, answerOf};
@@ -97,7 +97,7 @@ fn answer_of(read: PointsRead) -> CurveAnswer
 // The chain of points is walked whole (2, 3), then 9, 10. A table of zeros will do.
 pub fn read_points(archive: &[u8], place: Place, powers: &mut [u32]) -> CurveAnswer
     requires { ⌜ Lies (now archive) place ⌝ }
-    requires { ⌜ (length (now powers) ≡ 1001) × Low (now powers) ⌝ }
+    requires { ⌜ Spare (now powers) ⌝ }
     ensures { λ r. ⌜ CurveRead (pointsOf (now (archive .entry)) (meant (now (archive .entry)) place)) r (now (powers .exit)) ⌝ }
 {
     let used = place.used;

@@ -1,7 +1,9 @@
 // Every test of a measure but that of the lent list (document 01, 'Calls on the archive'); its exact magnitudes into a sheet.
-ghost use Rattle.rules.specs.Settle.{basisOf, settled};
+ghost use mathlib.Core.Path.{_≡_};
+ghost use mathlib.Core.Bool.{true, false};
+ghost use Rattle.rules.specs.Settle.{settled};
 ghost use Rattle.place.specs.Places.{meant, Lies};
-ghost use Rattle.basis.specs.Bases.{Finds};
+ghost use Rattle.basis.specs.Bases.{needsCurve};
 ghost use Rattle.prepare.specs.Answers.{Grounded, PreparesOn, Prepares, settledAt};
 use basis::Based;
 use basis::Basis;
@@ -37,14 +39,15 @@ fn on_basis(
         (now (powers .entry)) (now (sheet .exit)) r ⌝ }
 {
     let reference = basis.reference;
-    match quarters::walk(archive, place, reference, powers, sheet) {
+    let d = reference::denominator(reference);
+    match quarters::walk(archive, place, reference, d, powers, sheet) {
         Walked::Refused(n) => Prepared::Refused(n),
         Walked::Count(count) => {
             let terms = place.terms;
             let direction = terms.direction;
             let measure = Measure {
                 direction,
-                denominator: 4 * reference::denominator(reference),
+                denominator: 4 * d,
                 count,
                 links: place.links + basis.links + count,
             };
@@ -53,26 +56,33 @@ fn on_basis(
     }
 }
 
-// The quarters on the basis that was found.
-fn on_based(
-    archive: &[u8],
-    place: Place,
-    based: Based,
-    powers: &[u32],
-    sheet: &mut [u64],
-) -> Prepared
+// With a table for the powers of the curve.
+fn with_curve(archive: &[u8], place: Place, sheet: &mut [u64]) -> Prepared
     requires { ⌜ Lies (now archive) place ⌝ }
-    requires { ⌜ Finds (basisOf (now archive) (meant (now archive) place)) (now powers) based ⌝ }
+    requires { ⌜ needsCurve (place .terms .technology) (place .terms .variant) ≡ true ⌝ }
     ensures { λ r. ⌜ Prepares (settledAt (now (archive .entry)) (meant (now (archive .entry)) place)) (now (sheet .exit)) r ⌝ }
 {
-    match based {
+    let mut powers = [0u32; 1001];
+    match basis::on_curve(archive, place, &mut powers) {
         Based::Refused(n) => Prepared::Refused(n),
-        Based::On(basis) => on_basis(archive, place, basis, powers, sheet),
+        Based::On(basis) => on_basis(archive, place, basis, &powers, sheet),
     }
 }
 
-// The exact magnitudes into the sheet, as far as it has places: 1 to 12. A basis that needs a curve gets a table for its powers. The
-// archive is lent on as a part of itself, the whole: so the compiler keeps its address in a register.
+fn without_curve(archive: &[u8], place: Place, sheet: &mut [u64]) -> Prepared
+    requires { ⌜ Lies (now archive) place ⌝ }
+    requires { ⌜ needsCurve (place .terms .technology) (place .terms .variant) ≡ false ⌝ }
+    ensures { λ r. ⌜ Prepares (settledAt (now (archive .entry)) (meant (now (archive .entry)) place)) (now (sheet .exit)) r ⌝ }
+{
+    let no_powers = [0u32; 0];
+    match basis::off_curve(archive, place) {
+        Based::Refused(n) => Prepared::Refused(n),
+        Based::On(basis) => on_basis(archive, place, basis, &no_powers, sheet),
+    }
+}
+
+// The exact magnitudes into the sheet, as far as it has places: 1 to 12. The archive is lent on as a part of itself, the whole: so the
+// compiler keeps its address in a register.
 pub fn prepare(archive: &[u8], p: u64, k: u64, sheet: &mut [u64]) -> Prepared
     ensures { λ r. ⌜ Prepares (settled (now (archive .entry)) p k) (now (sheet .exit)) r ⌝ }
 {
@@ -83,13 +93,9 @@ pub fn prepare(archive: &[u8], p: u64, k: u64, sheet: &mut [u64]) -> Prepared
             let whole = &archive[0..size];
             let terms = place.terms;
             if basis::needs_curve(terms) {
-                let mut powers = [0u32; 1001];
-                let based = basis::find(whole, place, &mut powers);
-                return on_based(whole, place, based, &powers, sheet);
+                return with_curve(whole, place, sheet);
             }
-            let mut no_powers = [0u32; 0];
-            let based = basis::find(whole, place, &mut no_powers);
-            on_based(whole, place, based, &no_powers, sheet)
+            without_curve(whole, place, sheet)
         }
     }
 }

@@ -4,7 +4,7 @@ ghost use mathlib.Core.Path.{_≡_};
 ghost use mathlib.Core.Bool.{_&&_};
 ghost use lib.Dec.{leb};
 ghost use Rattle.place.specs.Places.{Lies};
-ghost use Rattle.reference.specs.References.{Held};
+ghost use Rattle.reference.specs.References.{Divided};
 ghost use Rattle.quarters.specs.Walks.{isInRange, entered, Walks};
 use chains::Link;
 use exact::Exact;
@@ -40,20 +40,20 @@ pub enum Walked {
     Refused(u64),
 }
 
-// The chain is walked to its end, however long, before 8 and then 9 are tested. A sheet of any length will do: a magnitude that has no
-// place there is tested and counted only.
+// The chain is walked to its end, however long, before 8 and then 9 are tested; d is D. A sheet of any length will do: a magnitude that
+// has no place there is tested and counted only.
 pub fn walk(
     archive: &[u8],
     place: Place,
     reference: Reference,
+    d: u64,
     powers: &[u32],
     sheet: &mut [u64],
 ) -> Walked
     requires { ⌜ Lies (now archive) place ⌝ }
-    requires { ⌜ Held reference (now powers) ⌝ }
+    requires { ⌜ Divided reference d (now powers) ⌝ }
     ensures { λ r. ⌜ Walks (now (archive .entry)) place reference (now (powers .entry)) (now (sheet .exit)) r ⌝ }
 {
-    let d = reference::denominator(reference);
     let used = place.used;
     let terms = place.terms;
     let mut last = place.measure;

@@ -77,6 +77,11 @@ pub record Divides (reference : Reference) (d : ℕ) : Type 0 where
   pub some : 0 < d
   pub small : d ≤ 4000000000
 
+-- a reference with its denominator
+pub record Divided (reference : Reference) (d : ℕ) (powers : List ℕ) : Type 0 where
+  pub held : Held reference powers
+  pub divides : Divides reference d
+
 -- ---- reference power
 
 -- the numerator of the quarter's T; or a field that it needs is out of range

@@ -38,7 +38,7 @@ returns : tie.Need-returns
 returns c = let s = c .before .before .before .before .before .before .before .before .before in
     let a = s .args in
     let p = c .before .before .before .before .before .read-points in
-    let i = is-wind (a .place .terms .technology) (a .place .terms .variant) (s .pre .1 .0) in
+    let i = is-wind (a .place .terms .technology) (a .place .terms .variant) (s .pre .1 .needs) in
     by-told (a .archive .now) (meant (a .archive .now) (a .place)) _ (Refused _) (i .0) (i .1) (wind-refused (a .archive .now) (meant (a .archive .now) (a .place)) (p .result) _ (p .ensures) _ (c .before .n .given .1))
 
 same-length-2 : tie.Need-same-length-2
@@ -48,7 +48,7 @@ returns-2 : tie.Need-returns-2
 returns-2 c = let s = c .before .before .before .before .before .before .before .before .before .before .before in
     let a = s .args in
     let p = c .before .before .before .before .before .before .before .read-points in
-    let i = is-wind (a .place .terms .technology) (a .place .terms .variant) (s .pre .1 .0) in
+    let i = is-wind (a .place .terms .technology) (a .place .terms .variant) (s .pre .1 .needs) in
     by-told (a .archive .now) (meant (a .archive .now) (a .place)) _ (c .compared .result) (i .0) (i .1)
     (wind-on (a .archive .now) (meant (a .archive .now) (a .place)) (p .result) _ (p .ensures) _ _ (c .before .before .before .curve .given .1) (c .compared .result) (c .compared .ensures .on))
 

@@ -40,7 +40,7 @@ irradiance-of-requires : tie.Need-irradiance-of-requires
 irradiance-of-requires c κs = (search needs, met-test (c .before .is-irradiance .ensures) (c .if2 .left))
 
 plus-requires : tie.Need-plus-requires
-plus-requires c κs = let p = c .before .before .before .before .before .before .before .before .before .pre in record { room = p .0; few = omega arith; low-a = omega arith; low-b = omega arith }
+plus-requires c κs = let p = c .before .before .before .before .before .before .before .before .before .pre in record { room = p .room; few = omega arith; low-a = omega arith; low-b = omega arith }
 
 returns-3 : tie.Need-returns-3
 returns-3 c =
@@ -54,7 +54,7 @@ returns-3 c =
     let a = p .args in
     let m = measured (s .measured-of .ensures) (met-test (i .before .in-power-range .ensures) (i .if1 .left)) (power .result) (power .ensures .0) in (
       every-used (a .sums) (a .r .now) m (w .weather-of .ensures .0) (met-test (j .before .is-irradiance .ensures) (j .if2 .left)) (g .0) (c .plus .ensures),
-      grown-one (c .plus .ensures) (record { room = p .pre .0; few = omega arith; low-a = power .ensures .1; low-b = omega (arith, g .1) }),
+      grown-one (c .plus .ensures) (record { room = p .pre .room; few = omega arith; low-a = power .ensures .1; low-b = omega (arith, g .1) }),
     )
 
 pub add-all-spec : {M : Type 1} → statement M

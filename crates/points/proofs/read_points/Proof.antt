@@ -112,7 +112,7 @@ read-point-requires c κs =
     let s = l .before .before .before .before in
     record {
       whole = part-size _ (c .before .read-point-arg .given .2);
-      size = k .size ∙ s .pre .1 .0;
+      size = k .size ∙ s .pre .1 .size;
       few = omega (arith, k .few, l .loop .inv .0 .below, s .pre .0 .few);
       last-in-range = k .in-range;
     }
@@ -151,7 +151,7 @@ returns-2 c =
     let i = c .before .before .before in
     let s = i .before .before .before in
     let a = s .args in
-    walk-answers (a .archive .now) (a .place) (i .link-of .result) (i .link-of .ensures .0) (a .powers .now) (s .pre .1 .0) (s .pre .1 .1)
+    walk-answers (a .archive .now) (a .place) (i .link-of .result) (i .link-of .ensures .0) (a .powers .now) (s .pre .1 .size) (s .pre .1 .low)
     (walk-ends stepped (a .archive .now) (a .place .used) pointKind (l .inv .0) (c .before .loop-test .left)) (c .answer-of .ensures)
 
 pub read-points-spec : {M : Type 1} → statement M

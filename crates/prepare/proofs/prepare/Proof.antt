@@ -1,12 +1,10 @@
 -- `prepare::prepare` meets its contract.
-use mathlib.Core.Path.{refl, sym, _∙_}
-use mathlib.Core.Bool.{false≢true}
+use mathlib.Core.Path.{sym, _∙_}
 use Rattle.place.proofs.Laws.{located, placed-refused}
-use Rattle.prepare.proofs.Bases.{no-place, lies-whole, at-whole, zeros-low}
+use Rattle.prepare.proofs.Bases.{no-place, lies-whole, at-whole}
 use borrow.Author.Needs.{needs}
 use Rattle.prepare.proofs.prepare.Statement.{statement}
 use Rattle.prepare.proofs.prepare.Tie as tie
-use Rattle.place.proofs.find.Reads as find-reads′
 
 find-requires : tie.Need-find-requires
 find-requires c κs = search needs
@@ -29,64 +27,53 @@ part-whole-end c = search needs
 needs-curve-requires : tie.Need-needs-curve-requires
 needs-curve-requires c κs = search needs
 
-slice-aggregate-find : tie.Need-slice-aggregate-find
-slice-aggregate-find c = search needs
-
-find-requires-2 : tie.Need-find-requires-2
-find-requires-2 c κs = let a = c .before .before .before .before .before .before .before .before .before .before .before .args in
-    let f = c .before .before .before .before .before .before .before .before .find in
-    let l = located (a .archive .now) (a .p) (a .k) (f .result) _ (f .ensures) (c .before .before .before .before .before .before .place .given .1) in
-    (lies-whole (a .archive .now) (l .lies), record { spare = λ e. record { size = refl; low = zeros-low 1001 } })
-
-slice-aggregate-on-based : tie.Need-slice-aggregate-on-based
-slice-aggregate-on-based c = search needs
-
-on-based-requires : tie.Need-on-based-requires
-on-based-requires c κs = let a = c .before .before .before .before .before .before .before .before .before .before .before .before .before .before .before .args in
-    let f = c .before .before .before .before .before .before .before .before .before .before .before .before .find in
-    let l = located (a .archive .now) (a .p) (a .k) (f .result) _ (f .ensures) (c .before .before .before .before .before .before .before .before .before .before .place .given .1) in
-    (lies-whole (a .archive .now) (l .lies), c .before .before .before .find2 .ensures)
+with-curve-requires : tie.Need-with-curve-requires
+with-curve-requires c κs =
+    let i = c .before in
+    let n = i .before in
+    let s = n .before .before .before .before in
+    let a = s .before .before .before .before .before .args in
+    let f = s .before .before .find in
+    (lies-whole (a .archive .now) (located (a .archive .now) (a .p) (a .k) (f .result) _ (f .ensures) (s .place .given .1) .lies), sym (n .needs-curve .ensures) ∙ i .if1 .taken)
 
 same-length : tie.Need-same-length
 same-length c = search needs
 
 returns : tie.Need-returns
-returns c = let a = c .before .before .before .before .before .before .before .before .before .before .before .before .before .before .before .before .before .before .args in
-    let f = c .before .before .before .before .before .before .before .before .before .before .before .before .before .before .before .find in
-    let l = located (a .archive .now) (a .p) (a .k) (f .result) _ (f .ensures) (c .before .before .before .before .before .before .before .before .before .before .before .before .before .place .given .1) in
-    at-whole (a .archive .now) (a .p) (a .k) _ (c .before .before .before .before .before .before .before .before .before .before .before .before .before .place .given .0 .0) (c .before .before .on-based .result) (l .is) (c .before .before .on-based .ensures)
+returns c =
+    let w = c .before .before .with-curve in
+    let s = c .before .before .before .before .before .before .before .before .before in
+    let a = s .before .before .before .before .before .args in
+    let f = s .before .before .find in
+    let l = located (a .archive .now) (a .p) (a .k) (f .result) _ (f .ensures) (s .place .given .1) in
+    at-whole (a .archive .now) (a .p) (a .k) _ (s .place .given .0 .0) (w .result) (l .is) (w .ensures)
 
-slice-aggregate-find-2 : tie.Need-slice-aggregate-find-2
-slice-aggregate-find-2 c = search needs
-
-find-requires-3 : tie.Need-find-requires-3
-find-requires-3 c κs = let a = c .before .before .before .before .before .before .before .before .before .before .before .args in
-    let f = c .before .before .before .before .before .before .before .before .find in
-    let l = located (a .archive .now) (a .p) (a .k) (f .result) _ (f .ensures) (c .before .before .before .before .before .before .place .given .1) in
-    (lies-whole (a .archive .now) (l .lies), record { spare = λ e. absurd (false≢true (sym (c .before .if1 .left) ∙ c .before .before .needs-curve .ensures ∙ e)) })
-
-slice-aggregate-on-based-2 : tie.Need-slice-aggregate-on-based-2
-slice-aggregate-on-based-2 c = search needs
-
-on-based-requires-2 : tie.Need-on-based-requires-2
-on-based-requires-2 c κs = let a = c .before .before .before .before .before .before .before .before .before .before .before .before .before .before .before .args in
-    let f = c .before .before .before .before .before .before .before .before .before .before .before .before .find in
-    let l = located (a .archive .now) (a .p) (a .k) (f .result) _ (f .ensures) (c .before .before .before .before .before .before .before .before .before .before .place .given .1) in
-    (lies-whole (a .archive .now) (l .lies), c .before .before .before .find3 .ensures)
+without-curve-requires : tie.Need-without-curve-requires
+without-curve-requires c κs =
+    let i = c .before in
+    let n = i .before in
+    let s = n .before .before .before .before in
+    let a = s .before .before .before .before .before .args in
+    let f = s .before .before .find in
+    (lies-whole (a .archive .now) (located (a .archive .now) (a .p) (a .k) (f .result) _ (f .ensures) (s .place .given .1) .lies), sym (n .needs-curve .ensures) ∙ i .if1 .left)
 
 returns-2 : tie.Need-returns-2
-returns-2 c = let a = c .before .before .before .before .before .before .args in
-    let f = c .before .before .before .find in
-    no-place (a .archive .now) (a .p) (a .k) _ _ (placed-refused _ (f .result) (f .ensures) _ (c .before .n .given .1))
+returns-2 c =
+    let s = c .before .before .before in
+    let a = s .before .before .before .args in
+    no-place (a .archive .now) (a .p) (a .k) _ _ (placed-refused _ (s .find .result) (s .find .ensures) _ (c .before .n .given .1))
 
 same-length-2 : tie.Need-same-length-2
 same-length-2 c = search needs
 
 returns-3 : tie.Need-returns-3
-returns-3 c = let a = c .before .before .before .before .before .before .before .before .before .before .before .before .before .before .before .before .before .before .args in
-    let f = c .before .before .before .before .before .before .before .before .before .before .before .before .before .before .before .find in
-    let l = located (a .archive .now) (a .p) (a .k) (f .result) _ (f .ensures) (c .before .before .before .before .before .before .before .before .before .before .before .before .before .place .given .1) in
-    at-whole (a .archive .now) (a .p) (a .k) _ (c .before .before .before .before .before .before .before .before .before .before .before .before .before .place .given .0 .0) (c .before .before .on-based2 .result) (l .is) (c .before .before .on-based2 .ensures)
+returns-3 c =
+    let w = c .before .before .without-curve in
+    let s = c .before .before .before .before .before .before .before .before .before in
+    let a = s .before .before .before .before .before .args in
+    let f = s .before .before .find in
+    let l = located (a .archive .now) (a .p) (a .k) (f .result) _ (f .ensures) (s .place .given .1) in
+    at-whole (a .archive .now) (a .p) (a .k) _ (s .place .given .0 .0) (w .result) (l .is) (w .ensures)
 
 pub prepare-spec : {M : Type 1} → statement M
 prepare-spec =
@@ -99,16 +86,10 @@ prepare-spec =
     part-whole-start
     part-whole-end
     needs-curve-requires
-    slice-aggregate-find
-    find-requires-2
-    slice-aggregate-on-based
-    on-based-requires
+    with-curve-requires
     same-length
     returns
-    slice-aggregate-find-2
-    find-requires-3
-    slice-aggregate-on-based-2
-    on-based-requires-2
+    without-curve-requires
     returns-2
     same-length-2
     returns-3)

@@ -1,6 +1,4 @@
 -- `quarters::walk` meets its contract.
-use Rattle.rules.specs.Terms.{quarterOf}
-use Rattle.exact.specs.Exacts.{quarterAnswer}
 use mathlib.Core.Path.{sym, _∙_, ap}
 use mathlib.Core.List.{List}
 use mathlib.Core.Bool.{Bool, _&&_}
@@ -8,139 +6,177 @@ use Prim.Native.Nat.{ℕ, _-_}
 use lib.Dec.{lit≤}
 use borrow.Author.Needs.{needs}
 use borrow.Author.Tests.{not-true, not-false}
+use Rattle.rules.specs.Terms.{quarterOf}
 use Rattle.rules.proofs.Parts.{start-fits, end-fits, end-within, start-end, part-size}
 use Rattle.rules.proofs.Chains.{record-part}
 use Rattle.chains.proofs.Laws.{no-at, met, link-nearer}
 use Rattle.terms.specs.Meanings.{meaning}
+use Rattle.exact.specs.Exacts.{quarterAnswer}
 use Rattle.quarters.proofs.Walks.{state, Going, going-starts, going-counts, going-on, walks-refused, walks-uncounted, walks-unreadable, walks-given}
 use Rattle.quarters.proofs.walk.Statement.{statement}
 use Rattle.quarters.proofs.walk.Tie as tie
 
 abbrev Inv-loop : tie.InvT-loop
-Inv-loop archive reference powers sheet₀ d used terms last₀ link₀ count₀ fine₀ sheet last link count fine =
+Inv-loop archive reference d powers sheet₀ used terms last₀ link₀ count₀ fine₀ sheet last link count fine =
     Going archive used last₀ link₀ (meaning terms) reference powers sheet₀ last link (state count fine sheet)
 
 abbrev μ-loop : tie.MeasureT-loop
-μ-loop archive reference powers sheet₀ d used terms last₀ link₀ count₀ fine₀ sheet last link count fine =
+μ-loop archive reference d powers sheet₀ used terms last₀ link₀ count₀ fine₀ sheet last link count fine =
     used - last
 
-denominator-requires : tie.Need-denominator-requires Inv-loop μ-loop
-denominator-requires c κs = c .before .before .before .pre .1 .bounded
-
 link-of-requires : tie.Need-link-of-requires Inv-loop μ-loop
-link-of-requires c κs = let p = c .before .before .before .before .before .pre .0 in (end-within (p .measure-used) (p .room), lit≤ tt)
+link-of-requires c κs =
+    let p = c .before .before .before .before .pre .0 in
+    (end-within (p .measure-used) (p .room), lit≤ tt)
 
 loop-holds : tie.Need-loop-holds Inv-loop μ-loop
-loop-holds c = going-starts (c .before .before .before .before .before .before .pre .0 .measure-used)
+loop-holds c =
+    going-starts (c .before .before .before .before .before .pre .0 .measure-used)
 
 follow-requires : tie.Need-follow-requires Inv-loop μ-loop
-follow-requires c κs = c .before .before .before .before .before .before .before .before .pre .0 .room
+follow-requires c κs =
+    c .before .before .before .before .before .before .before .pre .0 .room
 
 enum-known-answer : tie.Need-enum-known-answer Inv-loop μ-loop
-enum-known-answer c = c .match .keys1
+enum-known-answer c =
+    c .match .keys1
 
 refusal-of-requires : tie.Need-refusal-of-requires Inv-loop μ-loop
 refusal-of-requires c κs = search needs
 
 same-length : tie.Need-same-length Inv-loop μ-loop
-same-length c = c .before .before .before .before .loop .inv .size
+same-length c =
+    c .before .before .before .before .loop .inv .size
 
 returns : tie.Need-returns Inv-loop μ-loop
-returns c = let f = c .before .before .follow in
-    walks-refused (c .before .before .before .before .before .before .before .before .before .before .before .args .place) (c .before .before .before .before .before .link-of .ensures .0) (c .before .before .before .before .loop .inv) (f .ensures) (no-at (f .result) (c .before .match .keys2)) (c .before .before .before .loop-test .taken) (c .refusal-of .ensures)
+returns c =
+    let f = c .before .before in
+    let t = f .before .before in
+    walks-refused (t .before .before .before .before .before .before .args .place) (t .before .link-of .ensures .0) (t .loop .inv) (f .follow .ensures) (no-at (f .follow .result) (c .before .match .keys2)) (f .before .loop-test .taken) (c .refusal-of .ensures)
 
 mul-exact-of : tie.Need-mul-exact-of Inv-loop μ-loop
-mul-exact-of c = let s = c .before .before .before .before .before .before .before .before .before .before .before .before in
-    let l = c .before .before .before .before .before .loop in
-    let f = c .before .before .before .follow in
-    let m = met (s .args .archive .now) (s .args .place .used) 5 (l .last) (l .link) (f .result) (f .ensures) _ (c .before .answer .given .1) in
+mul-exact-of c =
+    let n = c .before in
+    let f = n .before .before in
+    let t = f .before .before in
+    let s = t .before .before .before .before .before .before in
+    let m = met (s .args .archive .now) (s .args .place .used) 5 (t .loop .last) (t .loop .link) (f .follow .result) (f .follow .ensures) _ (n .answer .given .1) in
     start-fits (m .below) (s .pre .0 .few)
 
 mul-exact-of-2 : tie.Need-mul-exact-of-2 Inv-loop μ-loop
-mul-exact-of-2 c = let s = c .before .before .before .before .before .before .before .before .before .before .before .before in
-    let l = c .before .before .before .before .before .loop in
-    let f = c .before .before .before .follow in
-    let m = met (s .args .archive .now) (s .args .place .used) 5 (l .last) (l .link) (f .result) (f .ensures) _ (c .before .answer .given .1) in
+mul-exact-of-2 c =
+    let n = c .before in
+    let f = n .before .before in
+    let t = f .before .before in
+    let s = t .before .before .before .before .before .before in
+    let m = met (s .args .archive .now) (s .args .place .used) 5 (t .loop .last) (t .loop .link) (f .follow .result) (f .follow .ensures) _ (n .answer .given .1) in
     start-fits (m .below) (s .pre .0 .few)
 
 add-exact-of : tie.Need-add-exact-of Inv-loop μ-loop
-add-exact-of c = let s = c .before .before .before .before .before .before .before .before .before .before .before .before in
-    let l = c .before .before .before .before .before .loop in
-    let f = c .before .before .before .follow in
-    let m = met (s .args .archive .now) (s .args .place .used) 5 (l .last) (l .link) (f .result) (f .ensures) _ (c .before .answer .given .1) in
+add-exact-of c =
+    let n = c .before in
+    let f = n .before .before in
+    let t = f .before .before in
+    let s = t .before .before .before .before .before .before in
+    let m = met (s .args .archive .now) (s .args .place .used) 5 (t .loop .last) (t .loop .link) (f .follow .result) (f .follow .ensures) _ (n .answer .given .1) in
     end-fits (m .below) (s .pre .0 .few)
 
 sub-exact-of : tie.Need-sub-exact-of Inv-loop μ-loop
-sub-exact-of c = start-end _
+sub-exact-of c =
+    start-end _
 
 part-exact-of-start : tie.Need-part-exact-of-start Inv-loop μ-loop
-part-exact-of-start c = start-end _
+part-exact-of-start c =
+    start-end _
 
 part-exact-of-end : tie.Need-part-exact-of-end Inv-loop μ-loop
-part-exact-of-end c = let s = c .before .before .before .before .before .before .before .before .before .before .before .before in
-    let l = c .before .before .before .before .before .loop in
-    let f = c .before .before .before .follow in
-    let m = met (s .args .archive .now) (s .args .place .used) 5 (l .last) (l .link) (f .result) (f .ensures) _ (c .before .answer .given .1) in
+part-exact-of-end c =
+    let n = c .before in
+    let f = n .before .before in
+    let t = f .before .before in
+    let s = t .before .before .before .before .before .before in
+    let m = met (s .args .archive .now) (s .args .place .used) 5 (t .loop .last) (t .loop .link) (f .follow .result) (f .follow .ensures) _ (n .answer .given .1) in
     end-within (m .below) (s .pre .0 .room)
 
 exact-of-requires : tie.Need-exact-of-requires Inv-loop μ-loop
-exact-of-requires c κs = record { held = c .before .before .before .before .before .before .before .before .before .before .before .before .before .pre .1; divides = c .before .before .before .before .before .before .before .before .before .denominator .ensures; size = part-size _ (c .exact-of-arg .given .2) }
+exact-of-requires c κs =
+    let d = c .before .before .before .before .before .before .before .before .before .before .before .before .pre .1 in
+    record { held = d .held; divides = d .divides; size = part-size _ (c .exact-of-arg .given .2) }
 
 enter-requires : tie.Need-enter-requires Inv-loop μ-loop
 enter-requires c κs = search needs
 
 add-count : tie.Need-add-count Inv-loop μ-loop
-add-count c = going-counts (c .before .before .before .before .before .before .before .before .before .before .before .loop .inv) (c .before .before .before .before .before .before .before .before .before .before .before .before .before .before .before .before .before .before .pre .0 .few)
+add-count c =
+    let t = c .before .before .before .before .before .before .before .before .before .before .before in
+    going-counts (t .loop .inv) (t .before .before .before .before .before .before .pre .0 .few)
 
 link-of-requires-2 : tie.Need-link-of-requires-2 Inv-loop μ-loop
-link-of-requires-2 c κs = let s = c .before .before .before .before .before .before .before .before .before .before .before .before .before .before .before .before .before .before in
-    let l = c .before .before .before .before .before .before .before .before .before .before .before .loop in
-    let f = c .before .before .before .before .before .before .before .before .before .follow in
-    let m = met (s .args .archive .now) (s .args .place .used) 5 (l .last) (l .link) (f .result) (f .ensures) _ (c .before .before .before .before .before .before .before .answer .given .1) in
+link-of-requires-2 c κs =
+    let n = c .before .before .before .before .before .before .before in
+    let f = n .before .before in
+    let t = f .before .before in
+    let s = t .before .before .before .before .before .before in
+    let m = met (s .args .archive .now) (s .args .place .used) 5 (t .loop .last) (t .loop .link) (f .follow .result) (f .follow .ensures) _ (n .answer .given .1) in
     (end-within (m .below) (s .pre .0 .room), lit≤ tt)
 
 loop-less : tie.Need-loop-less Inv-loop μ-loop
-loop-less c = let s = c .before .before .before .before .before .before .before .before .before .before .before .before .before .before .before .before .before .before .before in
-    let l = c .before .before .before .before .before .before .before .before .before .before .before .before .loop in
-    let f = c .before .before .before .before .before .before .before .before .before .before .follow in
-    let m = met (s .args .archive .now) (s .args .place .used) 5 (l .last) (l .link) (f .result) (f .ensures) _ (c .before .before .before .before .before .before .before .before .answer .given .1) in
+loop-less c =
+    let n = c .before .before .before .before .before .before .before .before in
+    let f = n .before .before in
+    let t = f .before .before in
+    let s = t .before .before .before .before .before .before in
+    let m = met (s .args .archive .now) (s .args .place .used) 5 (t .loop .last) (t .loop .link) (f .follow .result) (f .follow .ensures) _ (n .answer .given .1) in
     link-nearer (m .rises) (m .below)
 
 loop-again : tie.Need-loop-again Inv-loop μ-loop
-loop-again c = let s = c .before .before .before .before .before .before .before .before .before .before .before .before .before .before .before .before .before .before .before in
-    let l = c .before .before .before .before .before .before .before .before .before .before .before .before .loop in
-    let f = c .before .before .before .before .before .before .before .before .before .before .follow in
-    let m = met (s .args .archive .now) (s .args .place .used) 5 (l .last) (l .link) (f .result) (f .ensures) _ (c .before .before .before .before .before .before .before .before .answer .given .1) in
-    let x = c .before .before .before .before .before .exact-of in
-    let e = c .before .before .before .enter in
+loop-again c =
+    let e = c .before .before .before in
+    let x = e .before .before in
+    let n = x .before .before .before in
+    let f = n .before .before in
+    let t = f .before .before in
+    let s = t .before .before .before .before .before .before in
+    let m = met (s .args .archive .now) (s .args .place .used) 5 (t .loop .last) (t .loop .link) (f .follow .result) (f .follow .ensures) _ (n .answer .given .1) in
     let terms = meaning (s .args .place .terms) in
-    going-on (l .inv) (x .result) m (c .link-of2 .ensures .0)
-    (λ ref k. x .ensures ref k ∙ ap (λ (r : List ℕ). quarterAnswer terms ref (quarterOf terms (l .count) r)) (record-part (s .args .archive .now) _))
-    (ap (λ (t : Bool). t && l .fine) (e .ensures .0)) (e .ensures .1) (e .kept .0)
+    going-on (t .loop .inv) (x .exact-of .result) m (c .link-of2 .ensures .0)
+    (λ ref k. x .exact-of .ensures ref k ∙ ap (λ (r : List ℕ). quarterAnswer terms ref (quarterOf terms (t .loop .count) r)) (record-part (s .args .archive .now) _))
+    (ap (λ (z : Bool). z && t .loop .fine) (e .enter .ensures .0)) (e .enter .ensures .1) (e .enter .kept .0)
 
 in-count-range-requires : tie.Need-in-count-range-requires Inv-loop μ-loop
 in-count-range-requires c κs = search needs
 
 same-length-2 : tie.Need-same-length-2 Inv-loop μ-loop
-same-length-2 c = c .before .before .before .loop .inv .size
+same-length-2 c =
+    c .before .before .before .loop .inv .size
 
 returns-2 : tie.Need-returns-2 Inv-loop μ-loop
-returns-2 c = walks-uncounted (c .before .before .before .before .before .before .before .before .before .before .args .place) (c .before .before .before .before .link-of .ensures .0) (c .before .before .before .loop .inv) (c .before .before .loop-test .left) (sym (c .before .in-count-range .ensures) ∙ not-true _ (c .if1 .taken))
+returns-2 c =
+    let t = c .before .before .before in
+    walks-uncounted (t .before .before .before .before .before .before .args .place) (t .before .link-of .ensures .0) (t .loop .inv) (c .before .before .loop-test .left) (sym (c .before .in-count-range .ensures) ∙ not-true _ (c .if1 .taken))
 
 same-length-3 : tie.Need-same-length-3 Inv-loop μ-loop
-same-length-3 c = c .before .before .before .before .loop .inv .size
+same-length-3 c =
+    c .before .before .before .before .loop .inv .size
 
 returns-3 : tie.Need-returns-3 Inv-loop μ-loop
-returns-3 c = walks-unreadable (c .before .before .before .before .before .before .before .before .before .before .before .args .place) (c .before .before .before .before .before .link-of .ensures .0) (c .before .before .before .before .loop .inv) (c .before .before .before .loop-test .left)
-    (sym (c .before .before .in-count-range .ensures) ∙ not-false _ (c .before .if1 .left)) (not-true _ (c .if2 .taken))
+returns-3 c =
+    let i = c .before .before in
+    let t = i .before .before in
+    walks-unreadable (t .before .before .before .before .before .before .args .place) (t .before .link-of .ensures .0) (t .loop .inv) (i .before .loop-test .left)
+    (sym (i .in-count-range .ensures) ∙ not-false _ (c .before .if1 .left)) (not-true _ (c .if2 .taken))
 
 same-length-4 : tie.Need-same-length-4 Inv-loop μ-loop
-same-length-4 c = c .before .before .before .before .loop .inv .size
+same-length-4 c =
+    c .before .before .before .before .loop .inv .size
 
 returns-4 : tie.Need-returns-4 Inv-loop μ-loop
-returns-4 c = let s = c .before .before .before .before .before .before .before .before .before .before .before in
-    walks-given (s .args .place) (c .before .before .before .before .before .link-of .ensures .0) (c .before .before .before .before .loop .inv) (c .before .before .before .loop-test .left)
-    (sym (c .before .before .in-count-range .ensures) ∙ not-false _ (c .before .if1 .left)) (not-false _ (c .if2 .left)) (s .pre .1 .bounded)
+returns-4 c =
+    let i = c .before .before in
+    let t = i .before .before in
+    let s = t .before .before .before .before .before .before in
+    walks-given (s .args .place) (t .before .link-of .ensures .0) (t .loop .inv) (i .before .loop-test .left)
+    (sym (i .in-count-range .ensures) ∙ not-false _ (c .before .if1 .left)) (not-false _ (c .if2 .left)) (s .pre .1 .held .bounded)
 
 pub walk-spec : {M : Type 1} → statement M
 walk-spec =
@@ -148,7 +184,6 @@ walk-spec =
     (tie.spec
     Inv-loop
     μ-loop
-    denominator-requires
     link-of-requires
     loop-holds
     follow-requires
