@@ -58,16 +58,18 @@ echo "a host's own settle: static and shared"
 # The shared library gives the calls that the header declares, and nothing else.
 diff <(sed -n 's/^uint[0-9]*_t \([a-z_]*\)(.*/\1/p' "$lib/sandegmur.h" | sort) <(nm -D --defined-only "$lib/libsandegmur.so" | sed 's/.* //' | sort)
 
-# The examples by pkg-config, from where its file lies in a folder that has another name than when it was made.
+# The example by pkg-config, from where its file lies and from a folder with another name.
 moved=$(mktemp -d)
 trap 'rm -rf "$moved"' EXIT
 cp -P "$lib"/sandegmur.h "$lib"/sandegmur.pc "$lib"/libsandegmur.* "$moved"
-export PKG_CONFIG_PATH=$moved
-# shellcheck disable=SC2046,SC2086
-gcc $flags examples/host.c $(pkg-config --cflags --libs sandegmur) -o "$lib/host-shared"
-grep -q 'NEEDED.*libsandegmur\.so\.' <<< "$(readelf -d "$lib/host-shared")"
-LD_LIBRARY_PATH=$(pkg-config --variable=libdir sandegmur) "$lib/host-shared" | cmp - "$expected"
-# shellcheck disable=SC2046,SC2086
-gcc $flags -static examples/host.c $(pkg-config --static --cflags --libs sandegmur) -o "$lib/host-static"
-"$lib/host-static" | cmp - "$expected"
+for folder in "$lib" "$moved"; do
+  export PKG_CONFIG_PATH=$folder
+  # shellcheck disable=SC2046,SC2086
+  gcc $flags examples/host.c $(pkg-config --cflags --libs sandegmur) -o "$folder/host-shared"
+  grep -q 'NEEDED.*libsandegmur\.so\.' <<< "$(readelf -d "$folder/host-shared")"
+  LD_LIBRARY_PATH=$(pkg-config --variable=libdir sandegmur) "$folder/host-shared" | cmp - "$expected"
+  # shellcheck disable=SC2046,SC2086
+  gcc $flags -static examples/host.c $(pkg-config --static --cflags --libs sandegmur) -o "$folder/host-static"
+  "$folder/host-static" | cmp - "$expected"
+done
 echo "pkg-config where its file lies: shared and static"
