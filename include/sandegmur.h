@@ -187,40 +187,44 @@ static inline int64_t sandegmur_amount(const uint8_t *place)
     return bits >> 63 == 0 ? (int64_t)bits : -(int64_t)~bits - 1;
 }
 
-/* Each of these writes the 32 bytes of a new record, ready for sandegmur_append: links and free bytes are 0. Power in W, wind
- * speed in tenths of m/s, irradiance in W/m2. A field that the plant's technology and variant do not need may be 0. */
-static inline void sandegmur_record(uint8_t *record, uint8_t kind, uint8_t first, uint8_t second)
+/* A record of a kind whose other bytes are 0. */
+static inline void sandegmur_record(uint8_t *record, uint8_t kind)
 {
     int i;
     for (i = 0; i < SANDEGMUR_RECORD_BYTES; i++)
         record[i] = 0;
     record[SANDEGMUR_KIND_AT] = kind;
-    record[1] = first;
-    record[2] = second;
 }
 
+/* Each of these writes the 32 bytes of a new record, ready for sandegmur_append: links and free bytes are 0. Power in W, wind
+ * speed in tenths of m/s, irradiance in W/m2. A field that the plant's technology and variant do not need may be 0. */
 static inline void sandegmur_plant(uint8_t *record, uint8_t technology, uint8_t variant, int32_t nominal)
 {
-    sandegmur_record(record, SANDEGMUR_PLANT, technology, variant);
+    sandegmur_record(record, SANDEGMUR_PLANT);
+    record[SANDEGMUR_PLANT_TECHNOLOGY_AT] = technology;
+    record[SANDEGMUR_PLANT_VARIANT_AT] = variant;
     sandegmur_put32(record + SANDEGMUR_PLANT_NOMINAL_AT, (uint32_t)nominal);
 }
 
 static inline void sandegmur_curve_point(uint8_t *record, int32_t speed, int32_t power)
 {
-    sandegmur_record(record, SANDEGMUR_CURVE_POINT, 0, 0);
+    sandegmur_record(record, SANDEGMUR_CURVE_POINT);
     sandegmur_put32(record + SANDEGMUR_CURVE_POINT_SPEED_AT, (uint32_t)speed);
     sandegmur_put32(record + SANDEGMUR_CURVE_POINT_POWER_AT, (uint32_t)power);
 }
 
 static inline void sandegmur_measure(uint8_t *record, uint8_t direction, uint8_t execution)
 {
-    sandegmur_record(record, SANDEGMUR_MEASURE, direction, execution);
+    sandegmur_record(record, SANDEGMUR_MEASURE);
+    record[SANDEGMUR_MEASURE_DIRECTION_AT] = direction;
+    record[SANDEGMUR_MEASURE_EXECUTION_AT] = execution;
 }
 
 /* Before-quarters are filed latest first. */
 static inline void sandegmur_before_quarter(uint8_t *record, uint8_t mark, int32_t measured, int32_t weather)
 {
-    sandegmur_record(record, SANDEGMUR_BEFORE_QUARTER, mark, 0);
+    sandegmur_record(record, SANDEGMUR_BEFORE_QUARTER);
+    record[SANDEGMUR_BEFORE_QUARTER_MARK_AT] = mark;
     sandegmur_put32(record + SANDEGMUR_BEFORE_QUARTER_MEASURED_AT, (uint32_t)measured);
     sandegmur_put32(record + SANDEGMUR_BEFORE_QUARTER_WEATHER_AT, (uint32_t)weather);
 }
@@ -229,7 +233,9 @@ static inline void sandegmur_before_quarter(uint8_t *record, uint8_t mark, int32
 static inline void sandegmur_quarter(uint8_t *record, uint8_t month, uint8_t of_day, int32_t measured, int32_t limit,
                                      int32_t weather, int32_t planned)
 {
-    sandegmur_record(record, SANDEGMUR_QUARTER, month, of_day);
+    sandegmur_record(record, SANDEGMUR_QUARTER);
+    record[SANDEGMUR_QUARTER_MONTH_AT] = month;
+    record[SANDEGMUR_QUARTER_OF_DAY_AT] = of_day;
     sandegmur_put32(record + SANDEGMUR_QUARTER_MEASURED_AT, (uint32_t)measured);
     sandegmur_put32(record + SANDEGMUR_QUARTER_LIMIT_AT, (uint32_t)limit);
     sandegmur_put32(record + SANDEGMUR_QUARTER_WEATHER_AT, (uint32_t)weather);

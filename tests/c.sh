@@ -13,7 +13,8 @@ build_and_run() {
   # Flags are words of a command.
   # shellcheck disable=SC2086
   for source in $sources; do
-    "$1" ${flags/-std=c99/$3} -g $5 -I"$lib" -x "$2" $source -x none "$lib/libsandegmur.a" -o "$lib/$(basename $source .c)-$(dirname $source)-$4"
+    built=$lib/$(basename $source .c)-$(dirname $source)-$4
+    "$1" ${flags/-std=c99/$3} -g $5 -I"$lib" -x "$2" $source -x none "$lib/libsandegmur.a" -o "$built"
   done
   "$lib/host-examples-$4" | cmp - "$expected"
   "$lib/host-tests-$4"
@@ -56,7 +57,25 @@ LD_LIBRARY_PATH=$lib "$lib/own-settle-shared"
 echo "a host's own settle: static and shared"
 
 # The shared library gives the calls that the header declares, and nothing else.
-diff <(sed -n 's/^uint[0-9]*_t \([a-z_]*\)(.*/\1/p' "$lib/sandegmur.h" | sort) <(nm -D --defined-only "$lib/libsandegmur.so" | sed 's/.* //' | sort)
+diff <(sed -n 's/^uint[0-9]*_t \([a-z_]*\)(.*/\1/p' "$lib/sandegmur.h" | sort) \
+  <(nm -D --defined-only "$lib/libsandegmur.so" | sed 's/.* //' | sort)
+
+# examples/settle.c on the longest archive and on one byte more, and its status where it can't read or write.
+settle=$lib/settle-examples-gcc
+truncate -s 2097120 "$long"
+"$settle" "$long" | cmp - "$long.expected"
+truncate -s 2097121 "$long"
+"$settle" "$long" | cmp - <(echo "E 0 0 1")
+ends_with() {
+  local expected=$1 status=0
+  shift
+  "$@" > /dev/full 2> "$lib/said" || status=$?
+  [ "$status" = "$expected" ] && [ -s "$lib/said" ] || { echo "status $status, not $expected: $*" >&2; exit 1; }
+}
+ends_with 1 "$settle" examples/wind.archive
+ends_with 1 "$settle" examples
+ends_with 1 "$settle" "$lib/no.archive"
+ends_with 2 "$settle"
 
 # The example by pkg-config, from where its file lies and from a folder with another name.
 moved=$(mktemp -d)

@@ -67,6 +67,38 @@ static void check_result(const uint8_t *result, int64_t count, int64_t total, in
     CHECK(sandegmur_amount(result + SANDEGMUR_RESULT_LINKS_AT) == links);
 }
 
+static void check_numbered(const int *names, size_t count, int first)
+{
+    for (size_t i = 0; i < count; i++)
+        CHECK(names[i] == first + (int)i);
+}
+
+/* The names that stand for FORMAT.md's numbers, in its order. */
+static void test_constants(void)
+{
+    static const int refusals[] = {
+        SANDEGMUR_NOT_REFUSED, SANDEGMUR_NOT_ARCHIVE,    SANDEGMUR_BAD_LINK,     SANDEGMUR_WRONG_KIND,
+        SANDEGMUR_NO_PLANT,    SANDEGMUR_NO_MEASURE,     SANDEGMUR_BAD_PLANT,    SANDEGMUR_BAD_MEASURE,
+        SANDEGMUR_BAD_COUNT,   SANDEGMUR_OUT_OF_RANGE,   SANDEGMUR_BAD_CURVE,    SANDEGMUR_TOO_FEW_USABLE,
+        SANDEGMUR_DIVISOR_ZERO, SANDEGMUR_NO_ROOM,       SANDEGMUR_BAD_RECORD,   SANDEGMUR_BAD_OWNER,
+        SANDEGMUR_ARCHIVE_FULL, SANDEGMUR_NOT_NAMED_ONCE,
+    };
+    static const int kinds[] = { SANDEGMUR_PLANT, SANDEGMUR_CURVE_POINT, SANDEGMUR_MEASURE, SANDEGMUR_BEFORE_QUARTER,
+                                 SANDEGMUR_QUARTER };
+    static const int technologies[] = { SANDEGMUR_WIND, SANDEGMUR_SOLAR, SANDEGMUR_OTHER };
+    static const int variants[] = { SANDEGMUR_SPITZ, SANDEGMUR_PAUSCHAL };
+    static const int directions[] = { SANDEGMUR_POSITIVE, SANDEGMUR_NEGATIVE };
+    static const int executions[] = { SANDEGMUR_REQUESTED, SANDEGMUR_TOLERATED, SANDEGMUR_BOTH_SIDES_FIXED };
+    static const int marks[] = { SANDEGMUR_NOT_MARKED, SANDEGMUR_MARKED };
+    check_numbered(refusals, 18, 0);
+    check_numbered(kinds, 5, 1);
+    check_numbered(technologies, 3, 1);
+    check_numbered(variants, 2, 1);
+    check_numbered(directions, 2, 1);
+    check_numbered(executions, 3, 1);
+    check_numbered(marks, 2, 0);
+}
+
 /* Each kind of record as FORMAT.md lays it out, whatever stood in the 32 bytes. */
 static void test_records(void)
 {
@@ -378,6 +410,7 @@ static void test_blocks(void)
 
 int main(void)
 {
+    test_constants();
     test_records();
     test_amounts();
     test_texts();

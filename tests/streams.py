@@ -107,7 +107,8 @@ def cut_output(program, data, expected, ignored):
         error.seek(0)
         said = error.read()
     check(expected.startswith(got), f"{what}: other bytes than the output's first {len(got)}")
-    check((said, process.returncode) == (FAILED if ignored else (b"", -signal.SIGPIPE)), f"{what}: {said[:80]!r}, status {process.returncode}")
+    told = FAILED if ignored else (b"", -signal.SIGPIPE)
+    check((said, process.returncode) == told, f"{what}: {said[:80]!r}, status {process.returncode}")
 
 
 def limited_output(program, data, expected):
