@@ -4,7 +4,7 @@
  * PREFIX/share/doc/sandegmur where it is installed. The library is for Linux on x86-64 alone.
  *
  * A call works on bytes and numbers that the caller lends, keeps nothing of them and allocates nothing. A refused call
- * returns the number of its refusal and changes no byte. Calls on different bytes may run at the same time.
+ * returns the number of its refusal and changes no byte. There is no state between calls: they may run side by side.
  *
  * What the caller owes, since no call can see it:
  *   - each pointer names as many bytes as the length after it says; NULL only with length 0;

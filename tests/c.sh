@@ -70,7 +70,10 @@ ends_with() {
   local expected=$1 status=0
   shift
   "$@" > /dev/full 2> "$lib/said" || status=$?
-  [ "$status" = "$expected" ] && [ -s "$lib/said" ] || { echo "status $status, not $expected: $*" >&2; exit 1; }
+  if [ "$status" != "$expected" ] || [ ! -s "$lib/said" ]; then
+    echo "status $status, not $expected, or nothing said: $*" >&2
+    exit 1
+  fi
 }
 ends_with 1 "$settle" examples/wind.archive
 ends_with 1 "$settle" examples

@@ -1,6 +1,6 @@
 #!/usr/bin/env python3
 """The program's reading and writing, which no proof can speak of: input in parts, input of just 65,536 bytes and of one more, output
-over several parts, writes that fail. Arguments: the outside program, then the program with its words. FORMAT.md's section 12 and the
+over several parts, reads and writes that fail. Arguments: the outside program, then the program with its words. FORMAT.md's section 12 and the
 man page say what is expected here."""
 import fcntl
 import os
@@ -17,8 +17,9 @@ RECORD = 32
 MOST = 65536
 PART = 1000
 REFUSED = b"E 0 0 1\n"
-# What a failed write leaves on standard error, and the status.
+# What a failed write leaves on standard error, and the status; the same for a failed read.
 FAILED = (b"", 0)
+READ_FAILED = (b"", 0)
 SECONDS = 60
 
 NEGATIVE, TOLERATED = 2, 2
@@ -142,6 +143,29 @@ def full_output(program, data):
     check((process.stderr, process.returncode) == FAILED, f"full device: {process.stderr[:80]!r}, status {process.returncode}")
 
 
+def failed_read(program, source, expected, what):
+    """A read that fails is the end of the input. source: a descriptor, or None for a closed input."""
+    closed = (lambda: os.close(0)) if source is None else None
+    process = subprocess.run(program, stdin=source, capture_output=True, timeout=SECONDS, preexec_fn=closed, check=False)
+    check(process.stdout == expected, f"{what}: {process.stdout[:80]!r}")
+    told = (process.stderr, process.returncode)
+    check(told == READ_FAILED, f"{what}: {told[0][:80]!r}, status {told[1]}")
+
+
+def failed_reads(program, data, expected):
+    failed_read(program, None, REFUSED, "closed input")
+    directory = os.open("/", os.O_RDONLY)
+    failed_read(program, directory, REFUSED, "directory")
+    os.close(directory)
+    # an empty pipe that nobody waits for: a read fails once the archive is read
+    reader, writer = os.pipe()
+    os.set_blocking(reader, False)
+    os.write(writer, data)
+    failed_read(program, reader, expected, "read that fails behind the archive")
+    os.close(reader)
+    os.close(writer)
+
+
 def main():
     outside, program = sys.argv[1], sys.argv[2:]
 
@@ -166,12 +190,13 @@ def main():
             from_file(program, data, REFUSED, f"65,536 bytes and {more} more, {what}")
     in_parts(program, whole + b"\0", REFUSED, "65,536 bytes and one more in parts")
 
+    failed_reads(program, small, small_lines)
     cut_output(program, whole, lines, ignored=False)
     cut_output(program, whole, lines, ignored=True)
     limited_output(program, whole, lines)
     full_output(program, whole)
     full_output(program, b"")
-    print(f"streams: {len(lines)} bytes of output whole, input in parts, one byte too many, and writes that fail")
+    print(f"streams: {len(lines)} bytes of output whole, input in parts, one byte too many, reads and writes that fail")
 
 
 main()

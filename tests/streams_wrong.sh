@@ -4,6 +4,8 @@
 set -euo pipefail
 outside=$1 program=$(realpath "$2")
 tests=$(dirname "$0")
+input=$(mktemp)
+trap 'rm -f "$input"' EXIT
 count=0
 
 # What the refusal says, then the words of the wrong program.
@@ -28,6 +30,10 @@ import os, subprocess, sys
 sys.exit(subprocess.run(['$program'], input=os.read(0, 65537)).returncode)"
 refused "on standard error b'read" sh -c "'$program'; echo read >&2"
 refused "65,536 bytes: status 1" sh -c "'$program'; exit 1"
+refused "closed input" sh -c "[ -e /dev/fd/0 ] && exec '$program'"
+refused "directory" sh -c "if [ -d /dev/fd/0 ]; then echo E >&2; fi; exec '$program'"
+refused "read that fails behind the archive: " \
+  sh -c "if cat > '$input' 2> /dev/null; then '$program' < '$input'; else '$program' < /dev/null; fi"
 refused "reader gone, SIGPIPE by default" env --ignore-signal=PIPE "$program"
 refused "reader gone, SIGPIPE ignored" env --default-signal=PIPE "$program"
 refused "limited file: " env --default-signal=XFSZ "$program"
