@@ -1,19 +1,23 @@
 # make run      build the program and settle the example archive
 # make test     the whole gate: comparisons with the outside program, then every proof from nothing
-# make lib      libsandegmur.a, its header and pkg-config file in target/lib, proved first
-# make install  the same below PREFIX (/usr/local), or DESTDIR in front of it
+# make lib      libsandegmur, static and shared, its header and pkg-config file in target/lib, proved first
+# make install  program, libraries, header, pages and man page below PREFIX (/usr/local), DESTDIR in front of it; builds what isn't built
 # make compare  200,000 generated calls against the outside program (CALLS=, SEED=)
 # make check-pages  generated cases against a reader made from docs/FORMAT.md and docs/RULES.md alone (ARCHIVES=, SEED=)
 # make cases    the outside program's calls and answers for crates/cases, written anew
 # make bench    times beside the outside program's, as ratios
-.PHONY: run test program lib install printed check-reference check-c check-program check-cases cases compare check-pages bench
+.PHONY: run test program lib install printed check-reference check-c check-install check-program check-cases cases compare check-pages bench
 
 PREFIX ?= /usr/local
+PROGRAM := target/bin/sandegmur
 LIB := target/lib
 INSTALLED := $(CURDIR)/target/installed
 PRINTED := target/printed
-VERSION := $(shell sed -n 's/^.define SANDEGMUR_VERSION_[A-Z]* //p' include/sandegmur.h | paste -s -d .)
-CFLAGS := -std=c99 -Wall -Wextra -Werror -pedantic -O2
+SOURCES := crates.txt $(shell find crates -name '*.rt' -o -name '*.antt')
+version = $(shell sed -n 's/^.define SANDEGMUR_VERSION_$(1) //p' include/sandegmur.h)
+VERSION := $(call version,MAJOR).$(call version,MINOR)
+SHARED := libsandegmur.so.$(call version,MAJOR)
+CFLAGS := -std=c99 -Wall -Wextra -Wconversion -Wsign-conversion -Werror -pedantic -O2
 SEED ?= 1
 CALLS ?= 200000
 ARCHIVES ?= 20000
@@ -22,36 +26,55 @@ ASK = target/reference/release/ask $(SEED) $(ARCHIVES) $(PAGES)
 CARGO := cd reference && SANDEGMUR_LIB=$(CURDIR)/$(LIB) CARGO_TARGET_DIR=$(CURDIR)/target/reference cargo
 
 run: program
-	target/bin/sandegmur < crates/sandegmur/stdin
+	$(PROGRAM) < crates/sandegmur/stdin
 
 test:
 	.ci/run
 
 program:
-	rt check sandegmur
+	.ci/check sandegmur
+	touch $(PROGRAM)
 
-# What the library stands on first, crates of one level beside each other.
-lib:
-	rt check booking filing audit prepare
+$(PROGRAM): $(SOURCES)
+	$(MAKE) program
+
+lib: $(LIB)/libsandegmur.a $(LIB)/libsandegmur.so $(LIB)/sandegmur.h $(LIB)/sandegmur.pc
+
+# What the library stands on first, crates of one level beside each other. A host's own function settle takes the place of a weak one.
+$(LIB)/libsandegmur.a: $(SOURCES)
+	.ci/check booking filing audit prepare
 	rt staticlib host
 	mkdir -p $(LIB)
-	cp target/staticlib/libhost.a $(LIB)/libsandegmur.a
-	cp include/sandegmur.h $(LIB)/
-	$(call pkgconfig,$(PREFIX)) > $(LIB)/sandegmur.pc
+	objcopy --weaken-symbol=settle target/staticlib/libhost.a $@
 
-# The pkg-config file for a prefix.
-pkgconfig = sed -e 's|@PREFIX@|$(1)|' -e 's|@VERSION@|$(VERSION)|' include/sandegmur.pc.in
+$(LIB)/libsandegmur.so: $(LIB)/libsandegmur.a
+	$(CC) -shared -nostartfiles -Wl,-z,defs,-z,now,-soname,$(SHARED) -Wl,--whole-archive $< -Wl,--no-whole-archive -o $(LIB)/$(SHARED)
+	ln -sf $(SHARED) $@
 
-# Library, header and pkg-config file into a folder, to be used from a prefix.
-define put
-	install -d $(1)/include $(1)/lib/pkgconfig
-	install -m 644 $(LIB)/sandegmur.h $(1)/include
-	install -m 644 $(LIB)/libsandegmur.a $(1)/lib
-	$(call pkgconfig,$(2)) > $(1)/lib/pkgconfig/sandegmur.pc
-endef
+$(LIB)/sandegmur.h: include/sandegmur.h
+	mkdir -p $(LIB)
+	cp $< $@
 
-install: lib
-	$(call put,$(DESTDIR)$(PREFIX),$(PREFIX))
+# Works where it lies: header and libraries are in its own folder.
+$(LIB)/sandegmur.pc: include/sandegmur.pc.in include/sandegmur.h
+	mkdir -p $(LIB)
+	$(call pkgconfig,$${pcfiledir},,) > $@
+
+# The pkg-config file for a prefix and the folders of header and libraries below it.
+pkgconfig = sed -e 's|@PREFIX@|$(1)|' -e 's|@INCLUDE@|$(2)|' -e 's|@LIB@|$(3)|' -e 's|@VERSION@|$(VERSION)|' include/sandegmur.pc.in
+
+# What is built, as it is.
+install: ROOT = $(DESTDIR)$(PREFIX)
+install: $(PROGRAM) lib
+	install -d $(ROOT)/bin $(ROOT)/include $(ROOT)/lib/pkgconfig $(ROOT)/share/man/man1 $(ROOT)/share/doc/sandegmur/examples
+	install $(PROGRAM) $(ROOT)/bin
+	install -m 644 include/sandegmur.h $(ROOT)/include
+	install -m 644 $(LIB)/libsandegmur.a $(LIB)/$(SHARED) $(ROOT)/lib
+	ln -sf $(SHARED) $(ROOT)/lib/libsandegmur.so
+	$(call pkgconfig,$(PREFIX),/include,/lib) > $(ROOT)/lib/pkgconfig/sandegmur.pc
+	install -m 644 docs/sandegmur.1 $(ROOT)/share/man/man1
+	install -m 644 docs/FORMAT.md docs/RULES.md $(ROOT)/share/doc/sandegmur
+	install -m 644 examples/*.* $(ROOT)/share/doc/sandegmur/examples
 
 # The outside program's own tests.
 check-reference:
@@ -63,15 +86,19 @@ printed:
 
 check-c: lib printed
 	tests/c.sh $(LIB) "$(CFLAGS)" $(PRINTED)/host
-	$(call put,$(INSTALLED),$(INSTALLED))
-	tests/install.sh $(INSTALLED) $(VERSION) "$(CC) $(CFLAGS)" $(PRINTED)/host
+
+check-install: lib program printed
+	tests/install.sh $(INSTALLED) $(VERSION) "$(CC) $(CFLAGS)" $(PRINTED)
 
 check-program: program printed
 	cmp $(PRINTED)/archive crates/sandegmur/stdin
 	cmp $(PRINTED)/program crates/sandegmur/stdout
-	$(CARGO) build -q --release --bin emit
-	tests/program.sh target/bin/sandegmur target/reference/release 400
-	tests/examples.sh target/bin/sandegmur
+	$(CARGO) build -q --release --bin emit --bin program
+	tests/program.sh $(PROGRAM) target/reference/release 400
+	tests/streams.py target/reference/release/program $(PROGRAM)
+	tests/streams_wrong.sh target/reference/release/program $(PROGRAM)
+	tests/examples.sh $(PROGRAM)
+	tests/man.sh docs/sandegmur.1
 
 # crates/cases holds the outside program's word, byte for byte.
 check-cases:
@@ -87,10 +114,10 @@ compare: lib
 
 check-pages: lib program
 	$(CARGO) build -q --release --features compare --bin ask --bin reader
-	$(ASK) target/bin/sandegmur
+	$(ASK) $(PROGRAM)
 	target/reference/release/reader < $(PAGES)/cases > $(PAGES)/read && cmp $(PAGES)/lines $(PAGES)/read || { $(ASK); exit 1; }
 	@echo "no difference between the library and the reader of the pages"
 
 bench: lib program
 	$(CARGO) build -q --release --bin fast
-	$(CARGO) run -q --release --features compare --bin bench -- $(CURDIR)/target/bin/sandegmur
+	$(CARGO) run -q --release --features compare --bin bench -- $(CURDIR)/$(PROGRAM)

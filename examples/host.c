@@ -10,51 +10,43 @@
 
 enum { RECORDS = 7, QUARTERS = 3 };
 
-/* A number of 32 bits into four bytes, little-endian. */
-static void put32(uint8_t *at, int32_t value)
+static uint32_t file(uint8_t *archive, size_t length, uint32_t owner, const uint8_t *record)
 {
-    uint32_t bits = (uint32_t)value;
-    for (int i = 0; i < 4; i++)
-        at[i] = (uint8_t)(bits >> (8 * i));
-}
-
-/* A number of 64 bits in two's complement from eight bytes, little-endian. */
-static int64_t get64(const uint8_t *at)
-{
-    uint64_t bits = 0;
-    for (int i = 0; i < 8; i++)
-        bits |= (uint64_t)at[i] << (8 * i);
-    return bits <= INT64_MAX ? (int64_t)bits : -(int64_t)(UINT64_MAX - bits) - 1;
-}
-
-/* Files a record: its bytes 0 to 2, and one number at a byte. */
-static uint32_t file(uint8_t *archive, size_t length, uint64_t owner, uint8_t kind, uint8_t first, uint8_t second, int at,
-                     int32_t value)
-{
-    uint8_t record[SANDEGMUR_RECORD_BYTES] = { kind, first, second };
-    put32(record + at, value);
-    return sandegmur_append(archive, length, owner, record, sizeof record);
+    return sandegmur_append(archive, length, owner, record, SANDEGMUR_RECORD_BYTES);
 }
 
 /* Case a: another plant, Pauschal; a negative measure, tolerated; the reference power; the measured power of each quarter. */
 static uint32_t file_case_a(uint8_t *archive, size_t length)
 {
     static const int32_t measured[QUARTERS] = { 500001, 500001, 500002 };
+    uint8_t record[SANDEGMUR_RECORD_BYTES];
+    uint32_t plant, measure;
+
     uint32_t number = sandegmur_fresh(archive, length);
-    if (number == SANDEGMUR_NOT_REFUSED)
-        number = file(archive, length, 0, 1, 3, 2, 16, 2000000);
-    if (number == SANDEGMUR_NOT_REFUSED)
-        number = file(archive, length, 1, 3, 2, 2, 16, 0);
-    if (number == SANDEGMUR_NOT_REFUSED)
-        number = file(archive, length, 2, 4, 1, 0, 8, 800000);
-    for (int i = 0; i < QUARTERS && number == SANDEGMUR_NOT_REFUSED; i++)
-        number = file(archive, length, 2, 5, 7, (uint8_t)(40 + i), 8, measured[i]);
+    if (number != SANDEGMUR_NOT_REFUSED)
+        return number;
+    plant = sandegmur_used(archive, length); /* the number that the next record gets */
+    sandegmur_plant(record, SANDEGMUR_OTHER, SANDEGMUR_PAUSCHAL, 1000000);
+    number = file(archive, length, 0, record);
+    if (number != SANDEGMUR_NOT_REFUSED)
+        return number;
+    measure = sandegmur_used(archive, length);
+    sandegmur_measure(record, SANDEGMUR_NEGATIVE, SANDEGMUR_TOLERATED);
+    number = file(archive, length, plant, record);
+    if (number != SANDEGMUR_NOT_REFUSED)
+        return number;
+    sandegmur_before_quarter(record, SANDEGMUR_MARKED, 800000, 0);
+    number = file(archive, length, measure, record);
+    for (int i = 0; i < QUARTERS && number == SANDEGMUR_NOT_REFUSED; i++) {
+        sandegmur_quarter(record, 7, 40, measured[i], 0, 0, 0);
+        number = file(archive, length, measure, record);
+    }
     return number;
 }
 
 static int refused(const char *call, uint32_t number)
 {
-    fprintf(stderr, "%s: refused with %" PRIu32 "\n", call, number);
+    fprintf(stderr, "%s: refused with %" PRIu32 ", %s\n", call, number, sandegmur_refusal_text(number));
     return 1;
 }
 
@@ -71,13 +63,15 @@ int main(void)
     number = sandegmur_audit(archive, sizeof archive);
     if (number != SANDEGMUR_NOT_REFUSED)
         return refused("audit", number);
-    number = settle(archive, sizeof archive, 1, 1, list, sizeof list, result, sizeof result);
+    number = sandegmur_settle(archive, sizeof archive, 1, 1, list, sizeof list, result, sizeof result);
     if (number != SANDEGMUR_NOT_REFUSED)
         return refused("settle", number);
 
-    int64_t count = get64(result);
-    printf("quarters %" PRId64 ", total %" PRId64 " Wh, links %" PRId64 "\n", count, get64(result + 8), get64(result + 16));
+    int64_t count = sandegmur_amount(result + SANDEGMUR_RESULT_COUNT_AT);
+    int64_t total = sandegmur_amount(result + SANDEGMUR_RESULT_TOTAL_AT);
+    int64_t links = sandegmur_amount(result + SANDEGMUR_RESULT_LINKS_AT);
+    printf("quarters %" PRId64 ", total %" PRId64 " Wh, links %" PRId64 "\n", count, total, links);
     for (int64_t i = 0; i < count; i++)
-        printf("quarter %" PRId64 ": %" PRId64 " Wh\n", i + 1, get64(list + SANDEGMUR_PLACE_BYTES * i));
+        printf("quarter %" PRId64 ": %" PRId64 " Wh\n", i + 1, sandegmur_amount(list + SANDEGMUR_PLACE_BYTES * i));
     return 0;
 }

@@ -1,12 +1,17 @@
-/* Sandegmur for hosts in C: the calls on an archive of 32-byte records (document 01, 'Calls on the archive').
+/* Sandegmur for hosts in C and C++: the calls on an archive of 32-byte records.
+ *
+ * FORMAT.md has the archive's bytes, every call and every refusal, RULES.md the energy rules: docs/ of the source,
+ * PREFIX/share/doc/sandegmur where it is installed. The library is for Linux on x86-64 alone.
  *
  * A call works on bytes and numbers that the caller lends, keeps nothing of them and allocates nothing. A refused call
- * returns the number of its refusal and changes no byte.
+ * returns the number of its refusal and changes no byte. There is no state between calls: they may run side by side.
  *
  * What the caller owes, since no call can see it:
  *   - each pointer names as many bytes as the length after it says; NULL only with length 0;
- *   - the parts of one call do not overlap, and nothing else writes to them during the call.
- * On the stack settle holds a sheet of 23,808 bytes, and sandegmur_audit a table of 65,536 bytes.
+ *   - the parts of one call do not overlap, and nothing else writes to them during the call;
+ *   - the stack that the call takes, SANDEGMUR_SETTLE_STACK and its like.
+ *
+ * The functions with a body below only lay out and read bytes, and test no value: that is for the calls.
  */
 #ifndef SANDEGMUR_H
 #define SANDEGMUR_H
@@ -14,9 +19,10 @@
 #include <stddef.h>
 #include <stdint.h>
 
-/* The version of these declarations: the first number changes when a call or a number changes its meaning. */
+/* The version of these declarations: the first number changes when a call or a number changes its meaning, the second
+ * when something is added. */
 #define SANDEGMUR_VERSION_MAJOR 1
-#define SANDEGMUR_VERSION_MINOR 0
+#define SANDEGMUR_VERSION_MINOR 1
 
 #ifdef __cplusplus
 extern "C" {
@@ -44,27 +50,107 @@ enum {
     SANDEGMUR_NOT_NAMED_ONCE = 17  /* audit: a record named by none or several */
 };
 
+/* Sizes and the most of each. */
 enum {
     SANDEGMUR_RECORD_BYTES = 32,
     SANDEGMUR_PLACE_BYTES = 8,
     SANDEGMUR_RESULT_BYTES = 24,
+    SANDEGMUR_MOST_RECORDS = 65535, /* of an archive, the head included */
+    SANDEGMUR_MOST_BYTES = 2097120, /* the same in bytes */
+    SANDEGMUR_MOST_BEFORE_QUARTERS = 96,
     SANDEGMUR_MOST_QUARTERS = 2976 /* a list of so many places is long enough for every measure */
 };
+
+/* Bytes of stack that are enough for a call. At a first call of the shared library the dynamic linker may take some more. */
+enum {
+    SANDEGMUR_SETTLE_STACK = 30720, /* settle and sandegmur_settle */
+    SANDEGMUR_AUDIT_STACK = 67584,
+    SANDEGMUR_OTHER_STACK = 1024 /* fresh, append and show */
+};
+
+/* Kinds of record. The head, record 0, has none. */
+enum {
+    SANDEGMUR_PLANT = 1,
+    SANDEGMUR_CURVE_POINT = 2,
+    SANDEGMUR_MEASURE = 3,
+    SANDEGMUR_BEFORE_QUARTER = 4,
+    SANDEGMUR_QUARTER = 5
+};
+
+/* A plant's technology and variant. */
+enum { SANDEGMUR_WIND = 1, SANDEGMUR_SOLAR = 2, SANDEGMUR_OTHER = 3 };
+enum { SANDEGMUR_SPITZ = 1, SANDEGMUR_PAUSCHAL = 2 };
+
+/* A measure's direction, positive where feed-in is raised, and execution. */
+enum { SANDEGMUR_POSITIVE = 1, SANDEGMUR_NEGATIVE = 2 };
+enum { SANDEGMUR_REQUESTED = 1, SANDEGMUR_TOLERATED = 2, SANDEGMUR_BOTH_SIDES_FIXED = 3 };
+
+/* A before-quarter's mark. */
+enum { SANDEGMUR_NOT_MARKED = 0, SANDEGMUR_MARKED = 1 };
+
+/* The byte at which a field starts: kinds, technologies and their like have one byte, the head's text four, links and U
+ * four (unsigned), powers, limits, speeds and weather four (signed), each number of the result eight (signed). */
+enum {
+    SANDEGMUR_HEAD_TEXT_AT = 0,
+    SANDEGMUR_HEAD_USED_AT = 4,
+    SANDEGMUR_HEAD_FIRST_PLANT_AT = 8,
+
+    SANDEGMUR_KIND_AT = 0, /* in every record but the head, as the next one */
+    SANDEGMUR_NEXT_AT = 4, /* link to the next record of the same chain */
+
+    SANDEGMUR_PLANT_TECHNOLOGY_AT = 1,
+    SANDEGMUR_PLANT_VARIANT_AT = 2,
+    SANDEGMUR_PLANT_FIRST_CURVE_POINT_AT = 8,
+    SANDEGMUR_PLANT_FIRST_MEASURE_AT = 12,
+    SANDEGMUR_PLANT_NOMINAL_AT = 16,
+
+    SANDEGMUR_CURVE_POINT_SPEED_AT = 8,
+    SANDEGMUR_CURVE_POINT_POWER_AT = 12,
+
+    SANDEGMUR_MEASURE_DIRECTION_AT = 1,
+    SANDEGMUR_MEASURE_EXECUTION_AT = 2,
+    SANDEGMUR_MEASURE_FIRST_BEFORE_QUARTER_AT = 8,
+    SANDEGMUR_MEASURE_FIRST_QUARTER_AT = 12,
+
+    SANDEGMUR_BEFORE_QUARTER_MARK_AT = 1,
+    SANDEGMUR_BEFORE_QUARTER_MEASURED_AT = 8,
+    SANDEGMUR_BEFORE_QUARTER_WEATHER_AT = 16,
+
+    SANDEGMUR_QUARTER_MONTH_AT = 1,
+    SANDEGMUR_QUARTER_OF_DAY_AT = 2,
+    SANDEGMUR_QUARTER_MEASURED_AT = 8,
+    SANDEGMUR_QUARTER_LIMIT_AT = 12,
+    SANDEGMUR_QUARTER_WEATHER_AT = 16,
+    SANDEGMUR_QUARTER_PLANNED_AT = 20,
+
+    SANDEGMUR_RESULT_COUNT_AT = 0,
+    SANDEGMUR_RESULT_TOTAL_AT = 8,
+    SANDEGMUR_RESULT_LINKS_AT = 16
+};
+
+/* ---- the calls */
 
 /* Settles measure place k of plant place p, both counted from 1 along their chains.
  * list: a place for every 8 of its bytes. The first places get the amounts in Wh, one for each quarter, little-endian in
  *     two's complement; later places, and bytes past the last whole place, keep theirs.
  * result: 24 bytes, which get the count of quarters, the total in Wh and the links followed, 8 bytes each, like the amounts.
- * Refused with 1 to 13. */
+ * sandegmur_amount reads each of these numbers. Refused with 1 to 13.
+ *
+ * settle is the same entry. Its name is weak in the static library, and looked up in the program first if the library is
+ * shared: a host that has a function settle of its own keeps it, and calls sandegmur_settle. */
+uint32_t sandegmur_settle(const uint8_t *archive, size_t archive_length, uint64_t p, uint64_t k, uint8_t *list,
+                          size_t list_length, uint8_t *result, size_t result_length);
+#ifndef SANDEGMUR_NO_SETTLE /* to be defined by a host whose own settle is declared otherwise */
 uint32_t settle(const uint8_t *archive, size_t archive_length, uint64_t p, uint64_t k, uint8_t *list, size_t list_length,
                 uint8_t *result, size_t result_length);
+#endif
 
 /* Writes the head of an archive with no record but the head, and zeros every other byte. Refused with 1 for the length. */
 uint32_t sandegmur_fresh(uint8_t *archive, size_t archive_length);
 
 /* Files a record of 32 bytes, with every link 0, under the record numbered owner: a plant under the head, 0; a curve point or
- * a measure under a plant; a before-quarter or a quarter under a measure. It becomes record U, the last of its chain.
- * Refused with 1, 14, 15, 2, 3 or 16. */
+ * a measure under a plant; a before-quarter or a quarter under a measure. It becomes the last of its chain, and its number is
+ * U, what sandegmur_used gives before the call; after it U is one more. Refused with 1, 14, 15, 2, 3 or 16. */
 uint32_t sandegmur_append(uint8_t *archive, size_t archive_length, uint64_t owner, const uint8_t *record, size_t record_length);
 
 /* Tests the kinds and links of all used records. Refused with 1, 2, 3 or 17. */
@@ -72,6 +158,134 @@ uint32_t sandegmur_audit(const uint8_t *archive, size_t archive_length);
 
 /* Where in the archive the 32 bytes of a record start; archive_length if there is no such record, or no archive. */
 uint64_t sandegmur_show(const uint8_t *archive, size_t archive_length, uint64_t number);
+
+/* ---- bytes */
+
+/* A number of 32 bits into four bytes, and out of them. */
+static inline void sandegmur_put32(uint8_t *at, uint32_t value)
+{
+    int i;
+    for (i = 0; i < 4; i++)
+        at[i] = (uint8_t)(value >> (8 * i) & 0xff);
+}
+
+static inline uint32_t sandegmur_get32(const uint8_t *at)
+{
+    return (uint32_t)at[0] | (uint32_t)at[1] << 8 | (uint32_t)at[2] << 16 | (uint32_t)at[3] << 24;
+}
+
+/* U, the count of used records, as the head has it; 0, which no archive has, if there are fewer than 32 bytes. */
+static inline uint32_t sandegmur_used(const uint8_t *archive, size_t archive_length)
+{
+    return archive_length < SANDEGMUR_RECORD_BYTES ? 0 : sandegmur_get32(archive + SANDEGMUR_HEAD_USED_AT);
+}
+
+/* An amount from the 8 bytes of a place of the list, or a number from 8 bytes of the result. */
+static inline int64_t sandegmur_amount(const uint8_t *place)
+{
+    uint64_t bits = sandegmur_get32(place) | (uint64_t)sandegmur_get32(place + 4) << 32;
+    return bits >> 63 == 0 ? (int64_t)bits : -(int64_t)~bits - 1;
+}
+
+/* A record of a kind whose other bytes are 0. */
+static inline void sandegmur_record(uint8_t *record, uint8_t kind)
+{
+    int i;
+    for (i = 0; i < SANDEGMUR_RECORD_BYTES; i++)
+        record[i] = 0;
+    record[SANDEGMUR_KIND_AT] = kind;
+}
+
+/* Each of these writes the 32 bytes of a new record, ready for sandegmur_append: links and free bytes are 0. Power in W, wind
+ * speed in tenths of m/s, irradiance in W/m2. A field that the plant's technology and variant do not need may be 0. */
+static inline void sandegmur_plant(uint8_t *record, uint8_t technology, uint8_t variant, int32_t nominal)
+{
+    sandegmur_record(record, SANDEGMUR_PLANT);
+    record[SANDEGMUR_PLANT_TECHNOLOGY_AT] = technology;
+    record[SANDEGMUR_PLANT_VARIANT_AT] = variant;
+    sandegmur_put32(record + SANDEGMUR_PLANT_NOMINAL_AT, (uint32_t)nominal);
+}
+
+static inline void sandegmur_curve_point(uint8_t *record, int32_t speed, int32_t power)
+{
+    sandegmur_record(record, SANDEGMUR_CURVE_POINT);
+    sandegmur_put32(record + SANDEGMUR_CURVE_POINT_SPEED_AT, (uint32_t)speed);
+    sandegmur_put32(record + SANDEGMUR_CURVE_POINT_POWER_AT, (uint32_t)power);
+}
+
+static inline void sandegmur_measure(uint8_t *record, uint8_t direction, uint8_t execution)
+{
+    sandegmur_record(record, SANDEGMUR_MEASURE);
+    record[SANDEGMUR_MEASURE_DIRECTION_AT] = direction;
+    record[SANDEGMUR_MEASURE_EXECUTION_AT] = execution;
+}
+
+/* Before-quarters are filed latest first. */
+static inline void sandegmur_before_quarter(uint8_t *record, uint8_t mark, int32_t measured, int32_t weather)
+{
+    sandegmur_record(record, SANDEGMUR_BEFORE_QUARTER);
+    record[SANDEGMUR_BEFORE_QUARTER_MARK_AT] = mark;
+    sandegmur_put32(record + SANDEGMUR_BEFORE_QUARTER_MEASURED_AT, (uint32_t)measured);
+    sandegmur_put32(record + SANDEGMUR_BEFORE_QUARTER_WEATHER_AT, (uint32_t)weather);
+}
+
+/* of_day: 4 x hour + quarter of the hour, 0 to 95, in UTC+1 all year. */
+static inline void sandegmur_quarter(uint8_t *record, uint8_t month, uint8_t of_day, int32_t measured, int32_t limit,
+                                     int32_t weather, int32_t planned)
+{
+    sandegmur_record(record, SANDEGMUR_QUARTER);
+    record[SANDEGMUR_QUARTER_MONTH_AT] = month;
+    record[SANDEGMUR_QUARTER_OF_DAY_AT] = of_day;
+    sandegmur_put32(record + SANDEGMUR_QUARTER_MEASURED_AT, (uint32_t)measured);
+    sandegmur_put32(record + SANDEGMUR_QUARTER_LIMIT_AT, (uint32_t)limit);
+    sandegmur_put32(record + SANDEGMUR_QUARTER_WEATHER_AT, (uint32_t)weather);
+    sandegmur_put32(record + SANDEGMUR_QUARTER_PLANNED_AT, (uint32_t)planned);
+}
+
+/* What a number that a call returned says, in English. */
+static inline const char *sandegmur_refusal_text(uint32_t number)
+{
+    switch (number) {
+    case SANDEGMUR_NOT_REFUSED:
+        return "not refused";
+    case SANDEGMUR_NOT_ARCHIVE:
+        return "not an archive: its length, its text AARB or its count of used records is wrong";
+    case SANDEGMUR_BAD_LINK:
+        return "a link is not above the record that holds it, or leads to an unused record";
+    case SANDEGMUR_WRONG_KIND:
+        return "a link leads to a record of the wrong kind, or a used record has an unknown kind";
+    case SANDEGMUR_NO_PLANT:
+        return "there is no such plant";
+    case SANDEGMUR_NO_MEASURE:
+        return "the plant has no such measure";
+    case SANDEGMUR_BAD_PLANT:
+        return "the plant's technology, variant or nominal power is not allowed";
+    case SANDEGMUR_BAD_MEASURE:
+        return "the measure's direction or execution is not allowed, or it raises wind or solar";
+    case SANDEGMUR_BAD_COUNT:
+        return "the measure has no quarter or more than 2,976, or more than 96 before-quarters";
+    case SANDEGMUR_OUT_OF_RANGE:
+        return "a needed field is out of range";
+    case SANDEGMUR_BAD_CURVE:
+        return "the curve has fewer than two points, or its speeds do not rise";
+    case SANDEGMUR_TOO_FEW_USABLE:
+        return "too few before-quarters are usable";
+    case SANDEGMUR_DIVISOR_ZERO:
+        return "the curve power or irradiance of the before-quarters sums to 0";
+    case SANDEGMUR_NO_ROOM:
+        return "the list has too few places for the quarters, or the result part is not 24 bytes long";
+    case SANDEGMUR_BAD_RECORD:
+        return "the new record is not 32 bytes long, has an unknown kind or a link that is not 0";
+    case SANDEGMUR_BAD_OWNER:
+        return "the owner is an unused record or has the wrong kind";
+    case SANDEGMUR_ARCHIVE_FULL:
+        return "the archive has no unused record left";
+    case SANDEGMUR_NOT_NAMED_ONCE:
+        return "a used record is named by no link or by several";
+    default:
+        return "no refusal has this number";
+    }
+}
 
 #ifdef __cplusplus
 }
