@@ -15,9 +15,9 @@ What stands between backticks on the page is one of these:
     `tests/promises.py --self-test`     an option that the file knows
     one of WORDS
 
-A number is one of COUNTS, which are taken from the tree, or stands in one of PHRASES. In the table of demands a statement stands with
-its demand's number and with a theorem whose type it is; in the table of calls a row holds what the function's contract says, and the
-edits are of crates that it stands on. The table of edits is the one that --write-table makes."""
+A number is a count that is taken anew (Tree.counts) or stands in one of PHRASES. In the table of demands a statement stands with its
+demand's number and with a theorem whose type it is; in the table of calls a row has what the function's contract says, the edits are of
+crates that it stands on, and no entry for C is missing. The table of edits is the one that --write-table makes."""
 
 import os
 import re
@@ -97,7 +97,7 @@ class Tree:
 
     def text(self, path):
         if path not in self.texts:
-            self.texts[path] = (ROOT / path).read_text()
+            self.texts[path] = (ROOT / path).read_text(encoding="utf-8")
         return self.texts[path]
 
     def path(self, word):
@@ -166,36 +166,40 @@ class Tree:
 
     @cached_property
     def counts(self):
-        """Each count that the page has, as a pattern of the sentence and the number that is right."""
-        figures = self.text("crates/rules/specs/Figures.antt")
-        makefile, gate, program = self.text("Makefile"), self.text(".ci/run"), self.text("tests/program.sh")
+        """Each count that the page has: its words, a pattern of them, and the number that is right."""
+
+        def part(path, pattern):
+            found = re.search(pattern, self.text(path), re.M | re.S)
+            if found is None:
+                sys.exit(f"{path} has nothing like {pattern}")
+            return found[1]
+
+        def examples(name):
+            return part("crates/rules/specs/Figures.antt", rf"^{name} =\n(.*?)^    ∷ \[\]$")
 
         def entries(name):
-            body = re.search(rf"^{name} =\n(.*?)^    ∷ \[\]$", figures, re.M | re.S)[1]
-            return body, len(re.findall(r"^    (?:∷ )?\(", body, re.M))
+            return len(re.findall(r"^    (?:∷ )?\(", examples(name), re.M))
 
-        def number(pattern, text):
-            return int(re.search(pattern, text, re.M)[1])
-
-        seed = number(r"^SEED \?= (\d+)$", makefile)
+        seed = part("Makefile", r"^SEED \?= (\d+)$")
         found = [
             (r"(NUMBER) wrong programs and wrong rules", len(self.labels)),
-            (r"(NUMBER) examples of the refusal table", entries("refusals")[1]),
-            (r"(NUMBER) examples of order and extent", entries("orders")[1]),
-            (r"figures a to (\w)", re.findall(r"^    -- ([a-z])\b", entries("figures")[0], re.M)[-1]),
-            (r"compares (NUMBER) generated calls", number(r"\bCALLS=(\d+)", gate)),
+            (r"(NUMBER) examples of the refusal table", entries("refusals")),
+            (r"(NUMBER) examples of order and extent", entries("orders")),
+            (r"figures a to (\w)", re.findall(r"^    -- ([a-z])\b", examples("figures"), re.M)[-1]),
+            (r"compares (NUMBER) generated calls", part(".ci/run", r"\bCALLS=(\d+)")),
             (r"generated calls \(seed (NUMBER):", seed),
-            (r"(NUMBER) inputs of the program \(seed", number(r"tests/program\.sh .* (\d+)$", makefile)),
-            (r"inputs of the program \(seed (NUMBER)\)", number(r'/emit" "\$inputs" (\d+) ', program)),
+            (r"(NUMBER) inputs of the program \(seed", part("Makefile", r"tests/program\.sh [^\n]* (\d+)$")),
+            (r"inputs of the program \(seed (NUMBER)\)", part("tests/program.sh", r'/emit" "\$inputs" (\d+) ')),
             (r"(NUMBER) stored calls", self.text("crates/cases/stdout").count("\n")),
             (r"in the gate seed (NUMBER),", seed),
-            (r"(NUMBER) different archives", number(r"^ARCHIVES \?= (\d+)$", makefile)),
-            (r"(NUMBER) bytes of room", number(r"(\d+) ≤ length", self.functions["sandegmur::fill"].clauses["requires"])),
+            (r"(NUMBER) different archives", part("Makefile", r"^ARCHIVES \?= (\d+)$")),
+            (r"(NUMBER) bytes of room", part("crates/sandegmur/src/main.rt", r"^fn fill\(.*?(\d+) ≤ length")),
         ]
-        return [
-            (re.compile(pattern.replace("NUMBER", NUMBER.pattern).replace(" ", r"\s+")), right if isinstance(right, str) else f"{right:,}")
-            for pattern, right in found
-        ]
+
+        def written(right):
+            return f"{int(right):,}" if str(right).isdigit() else right
+
+        return [(words, re.compile(words.replace("NUMBER", NUMBER.pattern).replace(" ", r"\s+")), written(right)) for words, right in found]
 
     def stands_on(self, crate):
         """A crate and all that it depends on."""
@@ -224,14 +228,13 @@ def read(text, tree, faults):
         if not JOIN.fullmatch(text, end, m.start()):
             file = None
         end = m.end()
-        path = tree.path(word)
-        if path is not None:
-            file = path if path.endswith(".antt") and "*" not in path else None
-        elif file is not None:
+        if file is not None and "/" not in word:
             if word in tree.declared(file):
                 cited.names.append((file.removeprefix("crates/"), word))
             else:
                 faults.append(f"{file} declares no {word}")
+        elif path := tree.path(word):
+            file = path if path.endswith(".antt") and "*" not in path else None
         elif word in tree.labels:
             cited.edits.append(word)
         elif word in WORDS:
@@ -254,17 +257,24 @@ def read(text, tree, faults):
     return cited, words
 
 
-def rows(page, heading, tree):
+def rows(page, heading, width, tree, faults):
     """The rows of a section's table: where each starts, and its cells with what they cite."""
     start = page.find(f"\n## {heading}\n") + 1
-    for m in list(ROW.finditer(page, start, page.find("\n## ", start)))[1:]:
-        yield m.start(1), [(cell.strip(), read(cell, tree, [])[0]) for cell in m[1].split("|")]
+    found = list(ROW.finditer(page, start, page.find("\n## ", start)))[1:]
+    if start == 0 or not found:
+        faults.append(f"no table under '{heading}'")
+    for m in found:
+        cells = [(cell.strip(), read(cell, tree, [])[0]) for cell in m[1].split("|")]
+        if len(cells) == width:
+            yield m.start(1), cells
+        else:
+            faults.append(f"not {width} cells: {m[0]}")
 
 
 def check_demands(page, tree, faults):
     """Where the numbers of demands stand that were found right."""
     known = set()
-    for start, ((demand, _), _, (_, statement), (_, proof)) in rows(page, "The demands", tree):
+    for start, ((demand, _), _, (_, statement), (_, proof)) in rows(page, "The demands", 4, tree, faults):
         types = " ".join(tree.declared(f"crates/{file}")[name].partition(" :")[2] for file, name in proof.names)
         for file, name in statement.names:
             if file in STATEMENTS and not has(types, name):
@@ -276,18 +286,22 @@ def check_demands(page, tree, faults):
 
 def check_calls(page, tree, faults):
     listed = set()
-    for _, ((cell, call), _, (_, contract), (need, needs), (_, wrong)) in rows(page, "The calls", tree):
+    for _, ((cell, call), _, (_, contract), (need, needs), (_, wrong)) in rows(page, "The calls", 5, tree, faults):
         listed.update(call.functions)
-        if not call.functions or not wrong.edits:
-            faults.append(f"no function or no edit in the row of {cell}")
+        if not call.functions or not contract.names or not wrong.edits:
+            faults.append(f"no function, contract or edit in the row of {cell}")
         for name in call.functions:
             if name not in tree.functions:
                 continue
-            requires, ensures = (tree.functions[name].clauses[kind] for kind in ("requires", "ensures"))
-            if not contract.names or not all(has(ensures, cited) for _, cited in contract.names):
-                faults.append(f"{name}: another contract")
-            if (need != "nothing") if not requires else not (needs.names and all(has(requires, cited) for _, cited in needs.names)):
-                faults.append(f"{name}: requires something else")
+            clauses = tree.functions[name].clauses
+            if not all(has(clauses["ensures"], cited) for _, cited in contract.names):
+                faults.append(f"{name} ensures something else")
+            if clauses["requires"]:
+                right = needs.names and all(has(clauses["requires"], cited) for _, cited in needs.names)
+            else:
+                right = need == "nothing"
+            if not right:
+                faults.append(f"{name} requires something else")
             for edit in wrong.edits:
                 if edit.partition("/")[0] not in tree.stands_on(name.partition("::")[0]):
                     faults.append(f"{name} doesn't stand on the crate of {edit}")
@@ -318,10 +332,10 @@ def check(page, tree):
     yield from faults
 
     plain = SPAN.sub(lambda m: f"`{' ' * len(m[1])}`", page)
-    for pattern, right in tree.counts:
+    for words, pattern, right in tree.counts:
         found = list(pattern.finditer(plain))
         if {m[1] for m in found} != {right}:
-            yield f"{pattern.pattern}: {[m[1] for m in found]}, not {right}"
+            yield f"{words}: {', '.join(m[1] for m in found) or 'none on the page'}, not {right}"
         known.update(m.start(1) for m in found)
     for phrase, pattern in FIXED:
         found = list(pattern.finditer(plain))
@@ -334,7 +348,7 @@ def check(page, tree):
     yield from (f"{m[0]} stands without backticks" for m in UNQUOTED.finditer(plain))
 
 
-def broken(page, tree):
+def broken(page):
     """The page with one citation broken, for each: the kind of citation, where it stands, and the page."""
 
     def put(kind, start, end, text):
@@ -350,7 +364,7 @@ def broken(page, tree):
         end = table.start() + word.end()
         yield put("word of the table of edits", end, end, "x")
     for m, following in zip(spans, spans[1:]):
-        if m[1].endswith(".antt") and JOIN.fullmatch(page, m.end(), following.start()) and tree.path(following[1]) is None:
+        if m[1].endswith(".antt") and JOIN.fullmatch(page, m.end(), following.start()) and "/" not in following[1]:
             yield put("file behind which names stand", m.start(1), m.end(1), "rules/specs/Lib.antt")
     for m in re.finditer(r"\| nothing \|", page):
         yield put("need of a call", m.start(), m.end(), "| something |")
@@ -364,11 +378,11 @@ def broken(page, tree):
 
 
 def main(words):
-    tree, page = Tree(), PAGE.read_text()
+    tree, page = Tree(), PAGE.read_text(encoding="utf-8")
     if words == ["--write-table"]:
         count = f"{len(tree.labels):,} wrong programs and wrong rules"
         page = re.sub(rf"{NUMBER.pattern} wrong programs and wrong rules", count, TABLE.sub(lambda m: tree.table, page))
-        PAGE.write_text(page)
+        PAGE.write_text(page, encoding="utf-8")
         print(f"docs/PROMISES.md: {len(tree.labels)} edits written")
         return 0
     if words not in ([], ["--self-test"]):
@@ -381,7 +395,7 @@ def main(words):
         print(f"docs/PROMISES.md: {len(tree.labels)} edits, and every file, name and number on the page is right")
         return 0
     tried, passed = {}, 0
-    for kind, where, variant in broken(page, tree):
+    for kind, where, variant in broken(page):
         tried[kind] = tried.get(kind, 0) + 1
         if next(check(variant, tree), None) is None:
             passed += 1
