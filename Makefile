@@ -9,7 +9,7 @@
 .PHONY: run test program lib install printed check-reference check-c check-install check-program check-cases cases compare check-pages bench
 
 PREFIX ?= /usr/local
-PROGRAM := target/bin/sandegmur
+PROGRAM := target/sandegmur
 LIB := target/lib
 INSTALLED := $(CURDIR)/target/installed
 PRINTED := target/printed
@@ -33,9 +33,10 @@ test:
 
 program:
 	.ci/check sandegmur
-	touch $(PROGRAM)
+	rt staticlib program
+	$(CC) $(CFLAGS) c/main.c target/staticlib/libprogram.a -o $(PROGRAM)
 
-$(PROGRAM): $(SOURCES)
+$(PROGRAM): $(SOURCES) c/main.c
 	$(MAKE) program
 
 lib: $(LIB)/libsandegmur.a $(LIB)/libsandegmur.so $(LIB)/sandegmur.h $(LIB)/sandegmur.pc

@@ -18,8 +18,8 @@ MOST = 65536
 PART = 1000
 REFUSED = b"E 0 0 1\n"
 # What a failed write leaves on standard error, and the status; the same for a failed read.
-FAILED = (b"", 0)
-READ_FAILED = (b"", 0)
+FAILED = (b"sandegmur: the output could not be written\n", 1)
+READ_FAILED = (b"sandegmur: the input could not be read\n", 1)
 SECONDS = 60
 
 NEGATIVE, TOLERATED = 2, 2

@@ -1,3 +1,3 @@
 pub mod Counts
 pub mod Laws
-pub mod Whole
+pub mod Short

@@ -20,13 +20,19 @@ shared-slice-read-if3 : tie.Need-shared-slice-read-if3
 shared-slice-read-if3 c = search needs
 
 returns-3 : tie.Need-returns-3
-returns-3 c = rw (eq-eqb _ 65 (c .before .before .before .before .if1 .left), eq-eqb _ 65 (c .before .before .if2 .left), ne-eqb _ 82 (c .if3 .taken))
+returns-3 c =
+    let at-if2 = c .before .before in
+    let at-if1 = at-if2 .before .before in
+    rw (eq-eqb _ 65 (at-if1 .if1 .left), eq-eqb _ 65 (at-if2 .if2 .left), ne-eqb _ 82 (c .if3 .taken))
 
 shared-slice-read-result : tie.Need-shared-slice-read-result
 shared-slice-read-result c = search needs
 
 returns-4 : tie.Need-returns-4
-returns-4 c = rw (eq-eqb _ 65 (c .before .before .before .before .before .if1 .left), eq-eqb _ 65 (c .before .before .before .if2 .left), eq-eqb _ 82 (c .before .if3 .left))
+returns-4 c =
+    let at-if2 = c .before .before .before in
+    let at-if1 = at-if2 .before .before in
+    rw (eq-eqb _ 65 (at-if1 .if1 .left), eq-eqb _ 65 (at-if2 .if2 .left), eq-eqb _ 82 (c .before .if3 .left))
 
 pub is-text-spec : {M : Type 1} → statement M
 is-text-spec =

@@ -52,10 +52,14 @@ link-of-requires c κs =
 returns-3 : tie.Need-returns-3
 unfolding recordAt
 returns-3 c =
-    let at-is-text = c .before .before .before in
-    let a = at-is-text .before .before .before .before .before .args .archive .now in
-    let size = sym (at-is-text .before .before .before .is-whole .ensures) ∙ not-false _ (at-is-text .before .before .if1 .left) in
-    let text = sym (at-is-text .is-text .ensures) ∙ not-false _ (c .before .before .if2 .left) in
+    let at-if2 = c .before .before in
+    let at-is-text = at-if2 .before in
+    let at-if1 = at-is-text .before .before in
+    let at-is-whole = at-if1 .before in
+    let entry = at-is-whole .before .before in
+    let a = entry .args .archive .now in
+    let size = sym (at-is-whole .is-whole .ensures) ∙ not-false _ (at-if1 .if1 .left) in
+    let text = sym (at-is-text .is-text .ensures) ∙ not-false _ (at-if2 .if2 .left) in
     let l = c .before .link-of in
     ⊎-elim
     (λ w. head-none a size text (l .result) (l .ensures .0) (omega arith))
@@ -65,11 +69,15 @@ returns-3 c =
 returns-4 : tie.Need-returns-4
 unfolding recordAt
 returns-4 c =
-    let at-if2 = c .before .before .before in
-    let a = at-if2 .before .before .before .before .before .before .args .archive .now in
-    let size = sym (at-if2 .before .before .before .before .is-whole .ensures) ∙ not-false _ (at-if2 .before .before .before .if1 .left) in
+    let at-link-of = c .before .before in
+    let at-if2 = at-link-of .before in
+    let at-if1 = at-if2 .before .before .before in
+    let at-is-whole = at-if1 .before in
+    let entry = at-is-whole .before .before in
+    let a = entry .args .archive .now in
+    let size = sym (at-is-whole .is-whole .ensures) ∙ not-false _ (at-if1 .if1 .left) in
     let text = sym (at-if2 .before .is-text .ensures) ∙ not-false _ (at-if2 .if2 .left) in
-    let l = c .before .before .link-of in
+    let l = at-link-of .link-of in
     head-used a size text (l .result) (l .ensures .0) (omega arith) (omega (arith, ltb-false))
 
 pub read-head-spec : {M : Type 1} → statement M

@@ -26,8 +26,10 @@ part-result-end c = search needs
 
 returns : tie.Need-returns
 returns c =
-    let a = c .before .before .before .before .before .args in
-    let h = c .before .before .before .read-head in
+    let at-read-head = c .before .before .before in
+    let entry = at-read-head .before .before in
+    let a = entry .args in
+    let h = at-read-head .read-head in
     shows-refused (a .archive) (a .number) _ refl refl refl _ (unopened (a .archive .now) (h .result) (h .ensures) _ (c .before .enum-told .given .1))
 
 sub-result-2 : tie.Need-sub-result-2
@@ -42,30 +44,41 @@ part-result-end-2 c = search needs
 returns-2 : tie.Need-returns-2
 returns-2 c =
     let at-used = c .before .before .before in
-    let a = at-used .before .before .before .before .args in
-    let h = at-used .before .before .read-head in
+    let at-read-head = at-used .before .before in
+    let entry = at-read-head .before .before in
+    let a = entry .args in
+    let h = at-read-head .read-head in
     let o = opened (a .archive .now) (h .result) (h .ensures) _ (at-used .used .given .1) in
     shows-past (a .archive) (a .number) _ refl refl refl _ (o .is) (omega arith)
 
 mul-result : tie.Need-mul-result
 mul-result c =
-    let a = c .before .before .before .before .before .before .args in
-    let h = c .before .before .before .before .read-head in
-    let o = opened (a .archive .now) (h .result) (h .ensures) _ (c .before .before .used .given .1) in
+    let at-used = c .before .before in
+    let at-read-head = at-used .before .before in
+    let entry = at-read-head .before .before in
+    let a = entry .args in
+    let h = at-read-head .read-head in
+    let o = opened (a .archive .now) (h .result) (h .ensures) _ (at-used .used .given .1) in
     omega arith
 
 mul-result-2 : tie.Need-mul-result-2
 mul-result-2 c =
-    let a = c .before .before .before .before .before .before .args in
-    let h = c .before .before .before .before .read-head in
-    let o = opened (a .archive .now) (h .result) (h .ensures) _ (c .before .before .used .given .1) in
+    let at-used = c .before .before in
+    let at-read-head = at-used .before .before in
+    let entry = at-read-head .before .before in
+    let a = entry .args in
+    let h = at-read-head .read-head in
+    let o = opened (a .archive .now) (h .result) (h .ensures) _ (at-used .used .given .1) in
     omega arith
 
 add-result : tie.Need-add-result
 add-result c =
-    let a = c .before .before .before .before .before .before .args in
-    let h = c .before .before .before .before .read-head in
-    let o = opened (a .archive .now) (h .result) (h .ensures) _ (c .before .before .used .given .1) in
+    let at-used = c .before .before in
+    let at-read-head = at-used .before .before in
+    let entry = at-read-head .before .before in
+    let a = entry .args in
+    let h = at-read-head .read-head in
+    let o = opened (a .archive .now) (h .result) (h .ensures) _ (at-used .used .given .1) in
     omega arith
 
 sub-result-3 : tie.Need-sub-result-3
@@ -76,16 +89,21 @@ part-result-start-3 c = search needs
 
 part-result-end-3 : tie.Need-part-result-end-3
 part-result-end-3 c =
-    let a = c .before .before .before .before .before .before .args in
-    let h = c .before .before .before .before .read-head in
-    let o = opened (a .archive .now) (h .result) (h .ensures) _ (c .before .before .used .given .1) in
+    let at-used = c .before .before in
+    let at-read-head = at-used .before .before in
+    let entry = at-read-head .before .before in
+    let a = entry .args in
+    let h = at-read-head .read-head in
+    let o = opened (a .archive .now) (h .result) (h .ensures) _ (at-used .used .given .1) in
     omega arith
 
 returns-3 : tie.Need-returns-3
 returns-3 c =
     let at-used = c .before .before .before in
-    let a = at-used .before .before .before .before .args in
-    let h = at-used .before .before .read-head in
+    let at-read-head = at-used .before .before in
+    let entry = at-read-head .before .before in
+    let a = entry .args in
+    let h = at-read-head .read-head in
     let o = opened (a .archive .now) (h .result) (h .ensures) _ (at-used .used .given .1) in
     shows-part (a .archive) (a .number) _ refl _ (o .is) (omega arith) refl refl
 

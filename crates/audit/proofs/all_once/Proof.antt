@@ -22,8 +22,10 @@ shared-slice-read-if1 c = omega arith
 
 returns : tie.Need-returns Inv-loop μ-loop
 returns c =
-    let a = c .before .before .before .before .args in
-    let l = c .before .before .before .loop in
+    let at-loop = c .before .before .before in
+    let entry = at-loop .before in
+    let a = entry .args in
+    let l = at-loop .loop in
     once-stop (a .marks .now) (l .i) (a .used) (l .inv .1) (λ e. omega arith) (omega arith)
 
 add-i : tie.Need-add-i Inv-loop μ-loop
@@ -34,8 +36,10 @@ loop-less c = omega arith
 
 loop-again : tie.Need-loop-again Inv-loop μ-loop
 loop-again c =
-    let l = c .before .before .before .loop in
-    (once-more (c .before .before .before .before .args .marks .now) (l .i) (l .inv .0) (omega arith), omega arith, omega arith)
+    let at-loop = c .before .before .before in
+    let entry = at-loop .before in
+    let l = at-loop .loop in
+    (once-more (entry .args .marks .now) (l .i) (l .inv .0) (omega arith), omega arith, omega arith)
 
 returns-2 : tie.Need-returns-2 Inv-loop μ-loop
 returns-2 c =

@@ -48,8 +48,10 @@ enum-known-number c = search needs
 
 returns : tie.Need-returns
 returns c =
-    let r = c .before .before .before .read-head in
-    let a = c .before .before .before .before .before .args in
+    let at-read-head = c .before .before .before in
+    let entry = at-read-head .before .before in
+    let r = at-read-head .read-head in
+    let a = entry .args in
     audit-unread (a .archive .now) _ (unopened (a .archive .now) (r .result) (r .ensures) _ (c .before .number .given .1))
 
 slice-aggregate-check-records : tie.Need-slice-aggregate-check-records
@@ -63,7 +65,10 @@ check-records-requires c κs =
 
 returns-2 : tie.Need-returns-2
 unfolding noMarks
-returns-2 c = audit-refused _ _ (used-is (c .before .before .before .before .before)) _ _ (c .before .before .check-records .ensures) (c .if1 .taken)
+returns-2 c =
+    let at-check-records = c .before .before in
+    let early = at-check-records .before .before .before in
+    audit-refused _ _ (used-is early) _ _ (at-check-records .check-records .ensures) (c .if1 .taken)
 
 slice-aggregate-all-once : tie.Need-slice-aggregate-all-once
 slice-aggregate-all-once c = sym (c .before .before .before .check-records .kept .1 .1 .0 ∙ marks-long)

@@ -20,19 +20,23 @@ refusal-of-requires c κs = search needs
 
 returns : tie.Need-returns
 returns c =
-    let a = c .before .before .before .before .before .before .args in
-    let l = c .before .before .before .link-of in
-    let f = c .before .before .follow in
+    let at-follow = c .before .before in
+    let at-link-of = at-follow .before in
+    let entry = at-link-of .before .before .before in
+    let a = entry .args in
+    let l = at-link-of .link-of in
+    let f = at-follow .follow in
     link-answered (a .archive .now) (a .used) (a .n) (a .at) (a .to) (omega arith) (l .result) (l .ensures .0) (f .result) (f .ensures) (a .marks .now) _
     (c .refusal-of .ensures) (no-at (f .result) (c .before .match .keys2))
 
 mark-requires : tie.Need-mark-requires
 mark-requires c κs =
-    let at-follow = c .before .before .before .before in
+    let at-answer = c .before .before in
+    let at-follow = at-answer .before .before in
     let a = at-follow .before .before .before .before .args in
     let l = at-follow .before .link-of in
     let f = at-follow .follow in
-    let to = led (a .archive .now) (a .used) (a .n) (a .at) (a .to) (omega arith) (l .result) (l .ensures .0) (f .result) (f .ensures) _ (c .before .before .answer .given .1) in
+    let to = led (a .archive .now) (a .used) (a .n) (a .at) (a .to) (omega arith) (l .result) (l .ensures .0) (f .result) (f .ensures) _ (at-answer .answer .given .1) in
     omega arith
 
 same-length : tie.Need-same-length
@@ -40,12 +44,16 @@ same-length c = search needs
 
 returns-2 : tie.Need-returns-2
 returns-2 c =
-    let at-answer = c .before .before .before .before .before in
-    let a = at-answer .before .before .before .before .before .before .args in
-    let l = at-answer .before .before .before .link-of in
-    let f = at-answer .before .before .follow in
+    let at-mark = c .before .before in
+    let at-answer = at-mark .before .before .before in
+    let at-follow = at-answer .before .before in
+    let at-link-of = at-follow .before in
+    let entry = at-link-of .before .before .before in
+    let a = entry .args in
+    let l = at-link-of .link-of in
+    let f = at-follow .follow in
     link-marked (a .archive .now) (a .used) (a .n) (a .at) (a .to) (omega arith) (l .result) (l .ensures .0) (f .result) (f .ensures) (a .marks .now) _ _
-    (at-answer .answer .given .1) (c .before .before .mark .ensures)
+    (at-answer .answer .given .1) (at-mark .mark .ensures)
 
 pub check-link-spec : {M : Type 1} → statement M
 check-link-spec =

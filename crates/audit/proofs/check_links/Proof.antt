@@ -43,17 +43,25 @@ enum-told c = search needs
 
 check-link-requires : tie.Need-check-link-requires Inv-loop μ-loop
 check-link-requires c κs =
-    let p = c .before .before .before .before .before .before .before .before .before .pre in
-    let w = at-within _ _ _ (slot (c .before .before) .has) in
-    (record { fits = p .0 .fits; few = p .0 .few; below = p .1; within = w .1 }, c .before .before .before .before .before .before .loop .inv .1 ∙ p .0 .size)
+    let early = c .before .before in
+    let at-loop = early .before .before .before .before in
+    let entry = at-loop .before .before .before in
+    let p = entry .pre in
+    let w = at-within _ _ _ (slot early .has) in
+    (record { fits = p .0 .fits; few = p .0 .few; below = p .1; within = w .1 }, at-loop .loop .inv .1 ∙ p .0 .size)
 
 same-length : tie.Need-same-length Inv-loop μ-loop
-same-length c = c .before .before .before .check-link .kept .1 .1 .1 .1 .1 .0 ∙ c .before .before .before .before .before .before .before .before .before .before .loop .inv .1
+same-length c =
+    let at-check-link = c .before .before .before in
+    let at-loop = at-check-link .before .before .before .before .before .before .before in
+    at-check-link .check-link .kept .1 .1 .1 .1 .1 .0 ∙ at-loop .loop .inv .1
 
 returns : tie.Need-returns Inv-loop μ-loop
 returns c =
     let at-check-link = c .before .before .before in
-    links-stop _ (at-check-link .before .before .before .before .before .before .before .loop .inv .0) (slot (at-check-link .before .before .before)) (at-check-link .check-link .ensures) (c .if1 .taken)
+    let early = at-check-link .before .before .before in
+    let at-loop = early .before .before .before .before in
+    links-stop _ (at-loop .loop .inv .0) (slot early) (at-check-link .check-link .ensures) (c .if1 .taken)
 
 add-i : tie.Need-add-i Inv-loop μ-loop
 add-i c = omega arith
@@ -64,9 +72,11 @@ loop-less c = omega arith
 loop-again : tie.Need-loop-again Inv-loop μ-loop
 loop-again c =
     let at-check-link = c .before .before .before in
-    let l = at-check-link .before .before .before .before .before .before .before .loop in
+    let early = at-check-link .before .before .before in
+    let at-loop = early .before .before .before .before in
+    let l = at-loop .loop in
     let k = at-check-link .check-link in
-    (links-on _ (l .inv .0) (slot (at-check-link .before .before .before)) (k .ensures) (c .if1 .left), k .kept .1 .1 .1 .1 .1 .0 ∙ l .inv .1)
+    (links-on _ (l .inv .0) (slot early) (k .ensures) (c .if1 .left), k .kept .1 .1 .1 .1 .1 .0 ∙ l .inv .1)
 
 same-length-2 : tie.Need-same-length-2 Inv-loop μ-loop
 same-length-2 c = c .before .loop .inv .1
@@ -78,7 +88,10 @@ same-length-3 : tie.Need-same-length-3 Inv-loop μ-loop
 same-length-3 c = c .before .before .before .before .loop .inv .1
 
 returns-3 : tie.Need-returns-3 Inv-loop μ-loop
-returns-3 c = links-none _ (c .before .before .before .before .loop .inv .0) (past _ _ (c .before .before .slot-at .ensures) (c .enum-told .given .1))
+returns-3 c =
+    let at-slot-at = c .before .before in
+    let at-loop = at-slot-at .before .before in
+    links-none _ (at-loop .loop .inv .0) (past _ _ (at-slot-at .slot-at .ensures) (c .enum-told .given .1))
 
 pub check-links-spec : {M : Type 1} → statement M
 check-links-spec =

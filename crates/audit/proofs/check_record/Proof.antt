@@ -43,9 +43,11 @@ is-kind-requires c κs = search needs
 
 returns : tie.Need-returns
 returns c =
-    let a = c .before .before .before .before .before .before .args in
-    unknown-done (a .archive .now) (a .used) (a .n) (c .before .before .before .before .before .before .pre .1 .some)
-    (kind-known (a .archive .now) _ (a .n) (record-part (a .archive .now) (a .n)) (c .before .before .kind-of .ensures) (c .before .is-kind .ensures) ∙ not-true _ (c .if1 .taken))
+    let at-kind-of = c .before .before in
+    let entry = at-kind-of .before .before .before .before in
+    let a = entry .args in
+    unknown-done (a .archive .now) (a .used) (a .n) (entry .pre .1 .some)
+    (kind-known (a .archive .now) _ (a .n) (record-part (a .archive .now) (a .n)) (at-kind-of .kind-of .ensures) (c .before .is-kind .ensures) ∙ not-true _ (c .if1 .taken))
 
 check-links-requires : tie.Need-check-links-requires
 check-links-requires c κs = search needs
@@ -55,11 +57,14 @@ same-length c = search needs
 
 returns-2 : tie.Need-returns-2
 returns-2 c =
-    let s = c .before .before .before .before in
-    let a = s .before .before .before .before .before .before .args in
+    let at-check-links = c .before .before in
+    let s = at-check-links .before .before in
+    let at-kind-of = s .before .before in
+    let entry = at-kind-of .before .before .before .before in
+    let a = entry .args in
     record-done (a .archive .now) (a .used) (a .n)
-    (inr (kind-known (a .archive .now) _ (a .n) (record-part (a .archive .now) (a .n)) (s .before .before .kind-of .ensures) (s .before .is-kind .ensures) ∙ not-false _ (s .if1 .left)))
-    (c .before .before .check-links .ensures)
+    (inr (kind-known (a .archive .now) _ (a .n) (record-part (a .archive .now) (a .n)) (at-kind-of .kind-of .ensures) (s .before .is-kind .ensures) ∙ not-false _ (s .if1 .left)))
+    (at-check-links .check-links .ensures)
 
 pub check-record-spec : {M : Type 1} → statement M
 check-record-spec =

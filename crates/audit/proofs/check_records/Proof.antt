@@ -26,28 +26,38 @@ same-length c = c .before .before .before .check-links .kept .1 .1 .1 .0
 returns : tie.Need-returns Inv-loop μ-loop
 returns c =
     let at-check-links = c .before .before .before in
-    head-stops (at-check-links .before .before .before .before .args .archive .now) (at-check-links .before .before .before .before .args .used) (at-check-links .check-links .ensures) (at-check-links .before .before .before .before .pre .1) (c .if1 .taken)
+    let entry = at-check-links .before .before .before .before in
+    head-stops (entry .args .archive .now) (entry .args .used) (at-check-links .check-links .ensures) (entry .pre .1) (c .if1 .taken)
 
 loop-holds : tie.Need-loop-holds Inv-loop μ-loop
 loop-holds c = ((λ start h. h), omega arith, c .before .before .before .before .before .before .before .pre .1, refl)
 
 check-record-requires : tie.Need-check-record-requires Inv-loop μ-loop
 check-record-requires c κs =
-    let p = c .before .before .before .before .before .before .before .before .before .before .pre in
-    let l = c .before .before .loop in
-    (record { fits = p .0 .fits; few = p .0 .few; size = l .inv .3 ∙ c .before .before .before .before .before .before .check-links .kept .1 .1 .1 .0 ∙ p .0 .size }, record { some = l .inv .1; below = c .before .loop-test .taken })
+    let at-loop = c .before .before in
+    let at-check-links = at-loop .before .before .before .before in
+    let entry = at-check-links .before .before .before .before in
+    let p = entry .pre in
+    let l = at-loop .loop in
+    (record { fits = p .0 .fits; few = p .0 .few; size = l .inv .3 ∙ at-check-links .check-links .kept .1 .1 .1 .0 ∙ p .0 .size }, record { some = l .inv .1; below = c .before .loop-test .taken })
 
 same-length-2 : tie.Need-same-length-2 Inv-loop μ-loop
 same-length-2 c =
     let at-check-record = c .before .before .before in
-    at-check-record .check-record .kept .1 .1 .1 .0 ∙ at-check-record .before .before .before .loop .inv .3 ∙ at-check-record .before .before .before .before .before .before .before .check-links .kept .1 .1 .1 .0
+    let at-loop = at-check-record .before .before .before in
+    let at-check-links = at-loop .before .before .before .before in
+    at-check-record .check-record .kept .1 .1 .1 .0 ∙ at-loop .loop .inv .3 ∙ at-check-links .check-links .kept .1 .1 .1 .0
 
 returns-2 : tie.Need-returns-2 Inv-loop μ-loop
 returns-2 c =
     let at-check-record = c .before .before .before in
-    let a = at-check-record .before .before .before .before .before .before .before .before .before .before .before .args in
-    let l = at-check-record .before .before .before .loop in
-    let first = head-passes (a .archive .now) (a .used) (at-check-record .before .before .before .before .before .before .before .check-links .ensures) (at-check-record .before .before .before .before .if1 .left) in
+    let at-loop = at-check-record .before .before .before in
+    let at-if1 = at-loop .before in
+    let at-check-links = at-if1 .before .before .before in
+    let entry = at-check-links .before .before .before .before in
+    let a = entry .args in
+    let l = at-loop .loop in
+    let first = head-passes (a .archive .now) (a .used) (at-check-links .check-links .ensures) (at-if1 .if1 .left) in
     records-stop (a .archive .now) (a .used) (l .n) (l .inv .0 _ first) (at-check-record .check-record .ensures) (a .used) (omega arith) (c .if2 .taken)
 
 add-n : tie.Need-add-n Inv-loop μ-loop
@@ -59,8 +69,10 @@ loop-less c = omega arith
 loop-again : tie.Need-loop-again Inv-loop μ-loop
 loop-again c =
     let at-check-record = c .before .before .before in
-    let a = at-check-record .before .before .before .before .before .before .before .before .before .before .before .args in
-    let l = at-check-record .before .before .before .loop in
+    let at-loop = at-check-record .before .before .before in
+    let entry = at-loop .before .before .before .before .before .before .before .before in
+    let a = entry .args in
+    let l = at-loop .loop in
     let r = at-check-record .check-record in
     ((λ start h. records-more (a .archive .now) (a .used) (l .n) (l .inv .0 start h) (r .ensures) (c .if2 .left)), omega arith, omega arith, r .kept .1 .1 .1 .0 ∙ l .inv .3)
 
@@ -69,10 +81,13 @@ same-length-3 c = c .before .loop .inv .3 ∙ c .before .before .before .before 
 
 returns-3 : tie.Need-returns-3 Inv-loop μ-loop
 returns-3 c =
-    let a = c .before .before .before .before .before .before .before .before .before .args in
+    let at-if1 = c .before .before in
+    let at-check-links = at-if1 .before .before .before in
+    let entry = at-check-links .before .before .before .before in
+    let a = entry .args in
     let l = c .before .loop in
     let e : l .n ≡ a .used = omega arith in
-    let first = head-passes (a .archive .now) (a .used) (c .before .before .before .before .before .check-links .ensures) (c .before .before .if1 .left) in
+    let first = head-passes (a .archive .now) (a .used) (at-check-links .check-links .ensures) (at-if1 .if1 .left) in
     subst (λ (n : ℕ). RecordsChecked (a .archive .now) (a .used) n (a .marks .now) (l .marks) 0) e (l .inv .0 _ first)
 
 pub check-records-spec : {M : Type 1} → statement M

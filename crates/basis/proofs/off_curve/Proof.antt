@@ -50,23 +50,34 @@ returns c = let s = c .before .before .before .before .before in
 
 returns-2 : tie.Need-returns-2
 unfolding basisBy _>>=_
-returns-2 c = let a = c .before .before .before .before .before .before .before .args in record { with = λ powers. by-told (a .archive .now) (meant (a .archive .now) (a .place)) powers (c .solar .result) (c .before .before .before .enum-told2 .given .1) (c .before .enum-told3 .given .1) (c .solar .ensures .with powers) }
+returns-2 c =
+    let at-enum-told2 = c .before .before .before in
+    let entry = at-enum-told2 .before .before .before .before in
+    let a = entry .args in record { with = λ powers. by-told (a .archive .now) (meant (a .archive .now) (a .place)) powers (c .solar .result) (at-enum-told2 .enum-told2 .given .1) (c .before .enum-told3 .given .1) (c .solar .ensures .with powers) }
 
 returns-3 : tie.Need-returns-3
-returns-3 c = let s = c .before .before .before .before .before .before .before in
+returns-3 c =
+    let at-enum-told2 = c .before .before .before in
+    let s = at-enum-told2 .before .before .before .before in
     let a = s .args in
     record {
-      with = λ powers. by-told (a .archive .now) (meant (a .archive .now) (a .place)) powers (On _) (c .before .before .before .enum-told2 .given .1) (c .before .enum-told4 .given .1)
+      with = λ powers. by-told (a .archive .now) (meant (a .archive .now) (a .place)) powers (On _) (at-enum-told2 .enum-told2 .given .1) (c .before .enum-told4 .given .1)
           (factor-finds (a .archive .now) (meant (a .archive .now) (a .place)) powers (a .place .terms .nominal) (s .pre .0 .nominal-natural) refl);
     }
 
 returns-4 : tie.Need-returns-4
-returns-4 c = let a = c .before .before .before .before .before .before .args in
-    record { with = λ powers. by-told (a .archive .now) (meant (a .archive .now) (a .place)) powers (On _) (c .before .before .enum-told5 .given .1) (c .enum-told6 .given .1) (planned-finds (a .archive .now) (meant (a .archive .now) (a .place)) powers) }
+returns-4 c =
+    let at-enum-told5 = c .before .before in
+    let entry = at-enum-told5 .before .before .before .before in
+    let a = entry .args in
+    record { with = λ powers. by-told (a .archive .now) (meant (a .archive .now) (a .place)) powers (On _) (at-enum-told5 .enum-told5 .given .1) (c .enum-told6 .given .1) (planned-finds (a .archive .now) (meant (a .archive .now) (a .place)) powers) }
 
 returns-5 : tie.Need-returns-5
 unfolding basisBy _>>=_
-returns-5 c = let a = c .before .before .before .before .before .before .before .args in record { with = λ powers. by-told (a .archive .now) (meant (a .archive .now) (a .place)) powers (c .pauschal2 .result) (c .before .before .before .enum-told5 .given .1) (c .before .enum-told7 .given .1) (c .pauschal2 .ensures .with powers) }
+returns-5 c =
+    let at-enum-told5 = c .before .before .before in
+    let entry = at-enum-told5 .before .before .before .before in
+    let a = entry .args in record { with = λ powers. by-told (a .archive .now) (meant (a .archive .now) (a .place)) powers (c .pauschal2 .result) (at-enum-told5 .enum-told5 .given .1) (c .before .enum-told7 .given .1) (c .pauschal2 .ensures .with powers) }
 
 pub off-curve-spec : {M : Type 1} → statement M
 off-curve-spec =

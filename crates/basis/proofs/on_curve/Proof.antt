@@ -19,10 +19,13 @@ enum-known-curve : tie.Need-enum-known-curve
 enum-known-curve c = search needs
 
 compared-requires : tie.Need-compared-requires
-compared-requires c κs = let s = c .before .before .before .before .before .before .before .before .before .before in
+compared-requires c κs =
+    let at-curve = c .before .before in
+    let at-read-points = at-curve .before .before .before .before in
+    let s = at-read-points .before .before .before .before in
     let a = s .args in
-    let p = c .before .before .before .before .before .before .read-points in
-    let q = some-points (pointsOf (a .archive .now) (meant (a .archive .now) (a .place))) (p .result) _ (p .ensures) _ _ (c .before .before .curve .given .1) in (
+    let p = at-read-points .read-points in
+    let q = some-points (pointsOf (a .archive .now) (meant (a .archive .now) (a .place))) (p .result) _ (p .ensures) _ _ (at-curve .curve .given .1) in (
       s .pre .0,
       record {
         size = q .tabulates .size;
@@ -35,9 +38,11 @@ same-length : tie.Need-same-length
 same-length c = search needs
 
 returns : tie.Need-returns
-returns c = let s = c .before .before .before .before .before .before .before .before .before in
+returns c =
+    let at-read-points = c .before .before .before .before .before in
+    let s = at-read-points .before .before .before .before in
     let a = s .args in
-    let p = c .before .before .before .before .before .read-points in
+    let p = at-read-points .read-points in
     let i = is-wind (a .place .terms .technology) (a .place .terms .variant) (s .pre .1 .needs) in
     by-told (a .archive .now) (meant (a .archive .now) (a .place)) _ (Refused _) (i .0) (i .1) (wind-refused (a .archive .now) (meant (a .archive .now) (a .place)) (p .result) _ (p .ensures) _ (c .before .n .given .1))
 
@@ -45,12 +50,15 @@ same-length-2 : tie.Need-same-length-2
 same-length-2 c = search needs
 
 returns-2 : tie.Need-returns-2
-returns-2 c = let s = c .before .before .before .before .before .before .before .before .before .before .before in
+returns-2 c =
+    let at-curve = c .before .before .before in
+    let at-read-points = at-curve .before .before .before .before in
+    let s = at-read-points .before .before .before .before in
     let a = s .args in
-    let p = c .before .before .before .before .before .before .before .read-points in
+    let p = at-read-points .read-points in
     let i = is-wind (a .place .terms .technology) (a .place .terms .variant) (s .pre .1 .needs) in
     by-told (a .archive .now) (meant (a .archive .now) (a .place)) _ (c .compared .result) (i .0) (i .1)
-    (wind-on (a .archive .now) (meant (a .archive .now) (a .place)) (p .result) _ (p .ensures) _ _ (c .before .before .before .curve .given .1) (c .compared .result) (c .compared .ensures .on))
+    (wind-on (a .archive .now) (meant (a .archive .now) (a .place)) (p .result) _ (p .ensures) _ _ (at-curve .curve .given .1) (c .compared .result) (c .compared .ensures .on))
 
 pub on-curve-spec : {M : Type 1} → statement M
 on-curve-spec =

@@ -19,15 +19,23 @@ enum-known-first : tie.Need-enum-known-first
 enum-known-first c = search needs
 
 returns : tie.Need-returns
-returns c = let a = c .before .before .before .before .before .before .before .before .args in
-    let g = c .before .before .before .before .before .gather in
-    let w = c .before .before .before .first .given in
+returns c =
+    let at-first = c .before .before .before in
+    let at-gather = at-first .before .before in
+    let entry = at-gather .before .before .before in
+    let a = entry .args in
+    let g = at-gather .gather in
+    let w = at-first .first .given in
     record { with = λ powers. based-of _ (g .result) (g .ensures .0 firstOne refl) _ _ (pauschal-is (a .archive .now) (meant (a .archive .now) (a .place))) powers (w .0 .0) (w .1) _ (first-few _ (w .0 .0 .sums) powers (c .if1 .taken)) }
 
 lowered-requires : tie.Need-lowered-requires
-lowered-requires c κs = let a = c .before .before .before .before .before .before .before .before .args in
-    let g = c .before .before .before .before .before .gather in
-    let w = c .before .before .before .first .given in
+lowered-requires c κs =
+    let at-first = c .before .before .before in
+    let at-gather = at-first .before .before in
+    let entry = at-gather .before .before .before in
+    let a = entry .args in
+    let g = at-gather .gather in
+    let w = at-first .first .given in
     let room = room-of (g .result) (w .0 .0) (w .1) (g .ensures .1) in
     (omega (arith, room .0 .room .low-a, room .0 .room .few), omega arith)
 
@@ -35,14 +43,21 @@ enum-known-n : tie.Need-enum-known-n
 enum-known-n c = search needs
 
 returns-2 : tie.Need-returns-2
-returns-2 c = let a = c .before .before .before .before .before .before .before .before .before .args in
-    let g = c .before .before .before .before .before .before .gather in
-    let w = c .before .before .before .before .first .given in
+returns-2 c =
+    let at-first = c .before .before .before .before in
+    let at-gather = at-first .before .before in
+    let entry = at-gather .before .before .before in
+    let a = entry .args in
+    let g = at-gather .gather in
+    let w = at-first .first .given in
     record { with = λ powers. based-of _ (g .result) (g .ensures .0 firstOne refl) _ _ (pauschal-is (a .archive .now) (meant (a .archive .now) (a .place))) powers (w .0 .0) (w .1) _ (rw (zero-add (w .0 .0 .count)) (first-on _ (w .0 .0 .sums) powers (c .before .if1 .left) (c .lowered .result) (c .lowered .ensures))) }
 
 returns-3 : tie.Need-returns-3
-returns-3 c = let a = c .before .before .before .before .before .before .args in
-    let g = c .before .before .before .gather in
+returns-3 c =
+    let at-gather = c .before .before .before in
+    let entry = at-gather .before .before .before in
+    let a = entry .args in
+    let g = at-gather .gather in
     let w = c .before .n .given in
     record { with = λ powers. based-refused _ (g .result) (g .ensures .0 firstOne refl) _ _ (pauschal-is (a .archive .now) (meant (a .archive .now) (a .place))) powers (w .0 .0) (w .1) }
 

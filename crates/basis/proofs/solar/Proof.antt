@@ -19,28 +19,45 @@ enum-known-all : tie.Need-enum-known-all
 enum-known-all c = search needs
 
 returns : tie.Need-returns
-returns c = let a = c .before .before .before .before .before .before .before .before .args in
-    let g = c .before .before .before .before .before .gather in
-    let w = c .before .before .before .all .given in
+returns c =
+    let at-all = c .before .before .before in
+    let at-gather = at-all .before .before in
+    let entry = at-gather .before .before .before in
+    let a = entry .args in
+    let g = at-gather .gather in
+    let w = at-all .all .given in
     record { with = λ powers. based-of _ (g .result) (g .ensures .0 everyOne refl) _ _ (solar-is (a .archive .now) (meant (a .archive .now) (a .place))) powers (w .0 .0) (w .1) _ (all-few _ (w .0 .0 .sums) powers (c .if1 .taken)) }
 
 returns-2 : tie.Need-returns-2
-returns-2 c = let a = c .before .before .before .before .before .before .before .before .before .before .args in
-    let g = c .before .before .before .before .before .before .before .gather in
-    let w = c .before .before .before .before .before .all .given in
-    record { with = λ powers. based-of _ (g .result) (g .ensures .0 everyOne refl) _ _ (solar-is (a .archive .now) (meant (a .archive .now) (a .place))) powers (w .0 .0) (w .1) _ (all-zero _ (w .0 .0 .sums) powers (c .before .before .if1 .left) (c .if2 .taken)) }
+returns-2 c =
+    let at-if1 = c .before .before in
+    let at-all = at-if1 .before .before .before in
+    let at-gather = at-all .before .before in
+    let entry = at-gather .before .before .before in
+    let a = entry .args in
+    let g = at-gather .gather in
+    let w = at-all .all .given in
+    record { with = λ powers. based-of _ (g .result) (g .ensures .0 everyOne refl) _ _ (solar-is (a .archive .now) (meant (a .archive .now) (a .place))) powers (w .0 .0) (w .1) _ (all-zero _ (w .0 .0 .sums) powers (at-if1 .if1 .left) (c .if2 .taken)) }
 
 mul-lowered : tie.Need-mul-lowered
-mul-lowered c = let a = c .before .before .before .before .before .before .before .before .before .before .before .args in
-    let g = c .before .before .before .before .before .before .before .before .gather in
-    let w = c .before .before .before .before .before .before .all .given in
+mul-lowered c =
+    let at-all = c .before .before .before .before .before .before in
+    let at-gather = at-all .before .before in
+    let entry = at-gather .before .before .before in
+    let a = entry .args in
+    let g = at-gather .gather in
+    let w = at-all .all .given in
     let room = room-of (g .result) (w .0 .0) (w .1) (g .ensures .1) in
     omega (arith, room .0 .room .few)
 
 lowered-requires : tie.Need-lowered-requires
-lowered-requires c κs = let a = c .before .before .before .before .before .before .before .before .before .before .before .args in
-    let g = c .before .before .before .before .before .before .before .before .gather in
-    let w = c .before .before .before .before .before .before .all .given in
+lowered-requires c κs =
+    let at-all = c .before .before .before .before .before .before in
+    let at-gather = at-all .before .before in
+    let entry = at-gather .before .before .before in
+    let a = entry .args in
+    let g = at-gather .gather in
+    let w = at-all .all .given in
     let room = room-of (g .result) (w .0 .0) (w .1) (g .ensures .1) in
     (omega (arith, room .0 .room .low-a, room .0 .room .few), omega (arith, room .0 .room .few))
 
@@ -48,14 +65,23 @@ enum-known-n : tie.Need-enum-known-n
 enum-known-n c = search needs
 
 returns-3 : tie.Need-returns-3
-returns-3 c = let a = c .before .before .before .before .before .before .before .before .before .before .before .before .args in
-    let g = c .before .before .before .before .before .before .before .before .before .gather in
-    let w = c .before .before .before .before .before .before .before .all .given in
-    record { with = λ powers. based-of _ (g .result) (g .ensures .0 everyOne refl) _ _ (solar-is (a .archive .now) (meant (a .archive .now) (a .place))) powers (w .0 .0) (w .1) _ (rw (zero-add (w .0 .0 .count)) (all-on _ (w .0 .0 .sums) powers (c .before .before .before .before .if1 .left) (c .before .before .if2 .left) (c .lowered .result) (c .lowered .ensures))) }
+returns-3 c =
+    let at-if2 = c .before .before in
+    let at-if1 = at-if2 .before .before in
+    let at-all = at-if1 .before .before .before in
+    let at-gather = at-all .before .before in
+    let entry = at-gather .before .before .before in
+    let a = entry .args in
+    let g = at-gather .gather in
+    let w = at-all .all .given in
+    record { with = λ powers. based-of _ (g .result) (g .ensures .0 everyOne refl) _ _ (solar-is (a .archive .now) (meant (a .archive .now) (a .place))) powers (w .0 .0) (w .1) _ (rw (zero-add (w .0 .0 .count)) (all-on _ (w .0 .0 .sums) powers (at-if1 .if1 .left) (at-if2 .if2 .left) (c .lowered .result) (c .lowered .ensures))) }
 
 returns-4 : tie.Need-returns-4
-returns-4 c = let a = c .before .before .before .before .before .before .args in
-    let g = c .before .before .before .gather in
+returns-4 c =
+    let at-gather = c .before .before .before in
+    let entry = at-gather .before .before .before in
+    let a = entry .args in
+    let g = at-gather .gather in
     let w = c .before .n .given in
     record { with = λ powers. based-refused _ (g .result) (g .ensures .0 everyOne refl) _ _ (solar-is (a .archive .now) (meant (a .archive .now) (a .place))) powers (w .0 .0) (w .1) }
 

@@ -20,7 +20,9 @@ enum-told-2 : tie.Need-enum-told-2
 enum-told-2 c = search needs
 
 returns-2 : tie.Need-returns-2
-returns-2 c = minus-bits _ (c .before .before .before .args .amount) (c .before .enum-told .given .1) (c .if1 .left) (c .before .before .before .fits .amount .fits)
+returns-2 c =
+    let entry = c .before .before .before in
+    minus-bits _ (entry .args .amount) (c .before .enum-told .given .1) (c .if1 .left) (entry .fits .amount .fits)
 
 returns-3 : tie.Need-returns-3
 returns-3 c = search needs

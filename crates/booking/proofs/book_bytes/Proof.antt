@@ -53,12 +53,14 @@ loop-less c = search needs
 
 loop-again : tie.Need-loop-again Inv-loop μ-loop
 loop-again c =
-    let b = c .before .before .before .before .before .before in
+    let at-put-place = c .before .before .before in
+    let at-bits-of = at-put-place .before in
+    let b = at-bits-of .before .before in
     let t = b .before .before in
     let l = t .before .loop in
     let a = t .before .before .before .before in
     turned (a .args .direction) (a .args .denominator) (a .args .sheet .now) (a .args .list .now) (l .list) (a .pre .positive) (l .remainder) (l .total) (l .i) (l .inv .0) (t .loop-test .taken) (l .inv .1) (a .pre .room)
-    _ _ _ _ (b .book-step .ensures .0) (b .book-step .ensures .1) (c .before .before .before .before .bits-of .ensures) (c .before .before .before .put-place .ensures)
+    _ _ _ _ (b .book-step .ensures .0) (b .book-step .ensures .1) (at-bits-of .bits-of .ensures) (at-put-place .put-place .ensures)
 
 same-length : tie.Need-same-length Inv-loop μ-loop
 same-length c = c .before .loop .inv .1 .as-long

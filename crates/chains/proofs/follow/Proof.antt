@@ -47,17 +47,21 @@ kind-of-requires c κs = part-size _ (c .kind-of-arg .given .2)
 returns-3 : tie.Need-returns-3
 returns-3 c =
     let at-if3 = c .before .before .before in
-    let a = at-if3 .before .before .before .before .args in
+    let at-if1 = at-if3 .before .before in
+    let entry = at-if1 .before .before in
+    let a = entry .args in
     let kind = c .before .kind-of .ensures ∙ ap (λ (r : List ℕ). kindOf r) (record-part (a .archive .now) (a .link)) in
-    answer-refused (a .link) _ _ (at-if3 .before .before .if1 .left)
+    answer-refused (a .link) _ _ (at-if1 .if1 .left)
     (follow-other (a .archive .now) (a .used) (a .kind) (a .holder) (a .link) (at-if3 .before .if2 .left) (leb-false _ _ (at-if3 .if3 .left)) (ne-eqb _ _ (λ e. c .if4 .taken (kind ∙ e))))
 
 returns-4 : tie.Need-returns-4
 returns-4 c =
     let at-if3 = c .before .before .before in
-    let a = at-if3 .before .before .before .before .args in
+    let at-if1 = at-if3 .before .before in
+    let entry = at-if1 .before .before in
+    let a = entry .args in
     let kind = c .before .kind-of .ensures ∙ ap (λ (r : List ℕ). kindOf r) (record-part (a .archive .now) (a .link)) in
-    answer-given (a .link) _ _ (at-if3 .before .before .if1 .left)
+    answer-given (a .link) _ _ (at-if1 .if1 .left)
     (follow-met (a .archive .now) (a .used) (a .kind) (a .holder) (a .link) (at-if3 .before .if2 .left) (leb-false _ _ (at-if3 .if3 .left)) (eq-eqb _ _ (sym kind ∙ c .if4 .left)))
 
 pub follow-spec : {M : Type 1} → statement M

@@ -53,7 +53,9 @@ link-of-requires : tie.Need-link-of-requires Inv-loop μ-loop
 link-of-requires c κs = search needs
 
 loop-holds : tie.Need-loop-holds Inv-loop μ-loop
-loop-holds c = (walk-starts onward _ _ _ (c .before .before .pre .below), c .before .before .pre .within, omega arith)
+loop-holds c =
+    let entry = c .before .before in
+    (walk-starts onward _ _ _ (entry .pre .below), entry .pre .within, omega arith)
 
 follow-requires : tie.Need-follow-requires Inv-loop μ-loop
 follow-requires c κs = search needs
@@ -66,9 +68,12 @@ refusal-of-requires c κs = search needs
 
 returns : tie.Need-returns Inv-loop μ-loop
 returns c =
-    let f = c .before .before .follow in
-    end-refused _ (from-first (c .before .before .before .before .before))
-    (walk-refused onward _ _ _ (c .before .before .before .before .loop .inv .0) (f .ensures) (no-at (f .result) (c .before .match .keys2)) (omega arith))
+    let at-follow = c .before .before in
+    let at-loop = at-follow .before .before in
+    let early = at-loop .before in
+    let f = at-follow .follow in
+    end-refused _ (from-first early)
+    (walk-refused onward _ _ _ (at-loop .loop .inv .0) (f .ensures) (no-at (f .result) (c .before .match .keys2)) (omega arith))
     (c .refusal-of .ensures)
 
 link-of-requires-2 : tie.Need-link-of-requires-2 Inv-loop μ-loop
@@ -82,8 +87,10 @@ loop-less c = let m = turned (c .before .before) in link-nearer (m .rises) (m .b
 
 loop-again : tie.Need-loop-again Inv-loop μ-loop
 loop-again c =
-    let m = turned (c .before .before) in
-    (walk-turns onward _ _ _ (c .before .before .before .before .before .before .loop .inv .0) m (c .link-of2 .ensures .0) refl, omega arith, omega arith)
+    let early = c .before .before in
+    let at-loop = early .before .before .before .before in
+    let m = turned early in
+    (walk-turns onward _ _ _ (at-loop .loop .inv .0) m (c .link-of2 .ensures .0) refl, omega arith, omega arith)
 
 mul-t15 : tie.Need-mul-t15 Inv-loop μ-loop
 mul-t15 c = omega (arith, c .before .loop .inv .0 .below)
@@ -93,8 +100,10 @@ add-t16 c = omega (arith, c .before .loop .inv .0 .below)
 
 returns-2 : tie.Need-returns-2 Inv-loop μ-loop
 returns-2 c =
-    let a = c .before .before .before .before .args in
-    end-reached (32 * a .holder + a .offset) (from-first (c .before .before)) (walk-ends onward _ _ _ (c .before .loop .inv .0) (omega arith))
+    let early = c .before .before in
+    let entry = early .before .before in
+    let a = entry .args in
+    end-reached (32 * a .holder + a .offset) (from-first early) (walk-ends onward _ _ _ (c .before .loop .inv .0) (omega arith))
 
 pub walk-all-spec : {M : Type 1} → statement M
 walk-all-spec =

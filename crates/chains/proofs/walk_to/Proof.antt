@@ -59,9 +59,12 @@ refusal-of-requires c κs = search needs
 
 returns-2 : tie.Need-returns-2 Inv-loop μ-loop
 returns-2 c =
-    let a = c .before .before .before .before .before .before .args in
-    let l = c .before .before .before .loop in
-    let f = c .before .before .follow in
+    let at-follow = c .before .before in
+    let at-loop = at-follow .before in
+    let entry = at-loop .before .before .before in
+    let a = entry .args in
+    let l = at-loop .loop in
+    let f = at-follow .follow in
     reach-refused (a .place) _ _ _
     (l .inv .0
     ∙ place-none (a .archive .now) (a .used) (a .kind) (l .reached) (l .link) (f .result) (f .ensures) (no-at (f .result) (c .before .match .keys2))
@@ -70,10 +73,13 @@ returns-2 c =
 
 returns-3 : tie.Need-returns-3 Inv-loop μ-loop
 returns-3 c =
-    let l = c .before .before .before .before .before .loop in
-    let a = c .before .before .before .before .before .before .before .before .args in
+    let early = c .before .before in
+    let at-loop = early .before .before .before in
+    let entry = at-loop .before .before .before in
+    let l = at-loop .loop in
+    let a = entry .args in
     reach-given (a .place) _ _ (l .links)
-    (l .inv .0 ∙ place-met (a .archive .now) (a .used) (a .kind) (l .reached) (l .link) _ (a .missing) (a .place) (l .links) (turned (c .before .before)) (omega arith))
+    (l .inv .0 ∙ place-met (a .archive .now) (a .used) (a .kind) (l .reached) (l .link) _ (a .missing) (a .place) (l .links) (turned early) (omega arith))
     (omega arith)
 
 link-of-requires : tie.Need-link-of-requires Inv-loop μ-loop
@@ -87,10 +93,13 @@ loop-less c = omega arith
 
 loop-again : tie.Need-loop-again Inv-loop μ-loop
 loop-again c =
-    let l = c .before .before .before .before .before .before .loop in
-    let a = c .before .before .before .before .before .before .before .before .before .args in (
+    let early = c .before .before .before in
+    let at-loop = early .before .before .before in
+    let entry = at-loop .before .before .before in
+    let l = at-loop .loop in
+    let a = entry .args in (
       l .inv .0
-          ∙ place-turn (a .archive .now) (a .used) (a .kind) (l .reached) (l .link) _ (c .link-of .result) (turned (c .before .before .before)) (c .link-of .ensures .0)
+          ∙ place-turn (a .archive .now) (a .used) (a .kind) (l .reached) (l .link) _ (c .link-of .result) (turned early) (c .link-of .ensures .0)
           (a .missing) (a .place) (l .links) (omega arith),
       omega arith,
       omega arith,

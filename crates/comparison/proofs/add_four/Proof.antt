@@ -41,9 +41,10 @@ mul-if3 c = search needs
 
 returns-3 : tie.Need-returns-3
 returns-3 c =
+    let at-raised = c .before .before in
+    let i = at-raised .before in
     let least = c .before .unsigned .ensures in
-    let power = c .before .before .raised in
-    let i = c .before .before .before in
+    let power = at-raised .raised in
     let s = i .before .before in
     let p = s .before .before .before .before .before in
     let a = p .args in
@@ -83,9 +84,10 @@ plus-requires c κs = search needs
 
 returns-5 : tie.Need-returns-5
 returns-5 c =
+    let at-power-at = c .before .before in
+    let v = at-power-at .before in
     let on-curve = c .before .unsigned2 in
-    let read = c .before .before .power-at .ensures in
-    let v = c .before .before .before in
+    let read = at-power-at .power-at .ensures in
     let j = v .before in
     let w = j .before .before in
     let n = w .before .before in

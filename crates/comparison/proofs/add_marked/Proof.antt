@@ -26,8 +26,10 @@ add-all-requires c κs = search needs
 
 returns : tie.Need-returns
 returns c =
-    let a = c .before .before .before .before .before .before .args in
-    let e = c .before .before .purpose .given in
+    let at-purpose = c .before .before in
+    let entry = at-purpose .before .before .before .before in
+    let a = entry .args in
+    let e = at-purpose .purpose .given in
     let f = c .add-four .ensures in
     (adds-four (a .purpose) (a .powers .now) (a .sums) (a .r .now) _ (e .0 .0) (e .0 .1 .0) (e .1) (f .0), f .1)
 

@@ -54,10 +54,11 @@ refusal-of-requires c κs = search needs
 
 returns : tie.Need-returns Inv-loop μ-loop
 returns c =
-    let s = c .before .before .before .before in
+    let at-follow = c .before .before in
+    let s = at-follow .before .before in
     let a = s .before .before .before .before .args in
     let l = s .loop in
-    let f = c .before .before .follow in (
+    let f = at-follow .follow in (
       (λ choice t. gathered-broken choice (a .archive .now) (meant (a .archive .now) (a .place)) (omega (arith, s .before .link-of .ensures .0))
           (walk-refused (steppedBy choice) (a .archive .now) (a .place .used) beforeKind (l .inv .walking choice t) (f .ensures)
           (no-at (f .result) (c .before .match .keys2)) (λ z. omega arith))
@@ -105,9 +106,11 @@ part-step-end c = end-within (met-at c .below) (c .before .before .before .befor
 step-requires : tie.Need-step-requires Inv-loop μ-loop
 step-requires c κs =
     let s = c .before in
+    let at-loop = s .before .before .before .before .before in
+    let entry = at-loop .before .before .before .before in
     let m = met-at s in
-    let p = s .before .before .before .before .before .before .before .before .before .pre in
-    let i = s .before .before .before .before .before .loop .inv in
+    let p = entry .pre in
+    let i = at-loop .loop .inv in
     record { ready = p .1; room = i .room; few = omega arith; size = part-size _ (c .step-arg .given .2) }
 
 link-of-requires-2 : tie.Need-link-of-requires-2 Inv-loop μ-loop
@@ -119,8 +122,10 @@ loop-less c = let m = met-at (c .before .before .before) in link-nearer (m .rise
 loop-again : tie.Need-loop-again Inv-loop μ-loop
 loop-again c =
     let s = c .before .before .before in
-    let a = s .before .before .before .before .before .before .before .before .before .args in
-    let l = s .before .before .before .before .before .loop in
+    let at-loop = s .before .before .before .before .before in
+    let entry = at-loop .before .before .before .before in
+    let a = entry .args in
+    let l = at-loop .loop in
     let m = met-at s in
     let f = c .before .step .ensures in
     record {

@@ -66,8 +66,10 @@ add-rest c = rest-fits (c .before .before .pre .1) (c .before .loop .inv .line)
 
 add-power : tie.Need-add-power Inv-loop μ-loop
 add-power c =
-    let l = c .before .before .loop in
-    power-fits (c .before .before .before .pre .1) (l .speed) (l .power) (l .rest) (l .inv .from) (c .before .loop-test .taken) (l .inv .line)
+    let at-loop = c .before .before in
+    let entry = at-loop .before in
+    let l = at-loop .loop in
+    power-fits (entry .pre .1) (l .speed) (l .power) (l .rest) (l .inv .from) (c .before .loop-test .taken) (l .inv .line)
 
 -- a speed on, after the carry
 turned : (c : lts.After-row-known reads.Pre reads.Post Inv-loop μ-loop) →

@@ -19,24 +19,27 @@ enum-told-2 c = search needs
 
 returns : tie.Need-returns
 returns c =
-    let s = c .before .before .before .before in
+    let at-read-curve = c .before .before in
+    let s = at-read-curve .before .before in
     let a = s .args in
-    let f = c .before .before .read-curve in
+    let f = at-read-curve .read-curve in
     says (a .curve) (a .powers .now) (a .speed .0) (f .result) (f .ensures) (s .pre) Below (c .enum-told .given .1)
 
 returns-2 : tie.Need-returns-2
 returns-2 c =
-    let s = c .before .before .before .before .before in
+    let at-read-curve = c .before .before .before in
+    let s = at-read-curve .before .before in
     let a = s .args in
-    let f = c .before .before .before .read-curve in
+    let f = at-read-curve .read-curve in
     let r = c .before .reading .given in
     says (a .curve) (a .powers .now) (a .speed .0) (f .result) (f .ensures) (s .pre) (On (r .0 .0)) (r .1)
 
 returns-3 : tie.Need-returns-3
 returns-3 c =
-    let s = c .before .before .before .before in
+    let at-read-curve = c .before .before in
+    let s = at-read-curve .before .before in
     let a = s .args in
-    let f = c .before .before .read-curve in
+    let f = at-read-curve .read-curve in
     says (a .curve) (a .powers .now) (a .speed .0) (f .result) (f .ensures) (s .pre) Above (c .enum-told2 .given .1)
 
 pub power-at-spec : {M : Type 1} → statement M

@@ -25,10 +25,12 @@ enum-told c = search needs
 
 returns : tie.Need-returns
 unfolding quarterOf
-returns c = let s = c .before .before .before .before .before in
+returns c =
+    let at-limit-of = c .before .before in
+    let s = at-limit-of .before .before .before in
     let a = s .args in
     let q = quarterOf (meaning (a .terms)) (a .index) (a .r .now) in
-    λ ref m. exact-unlimited (meaning (a .terms)) ref q (c .enum-told .given .1) (c .before .before .limit-of .ensures)
+    λ ref m. exact-unlimited (meaning (a .terms)) ref q (c .enum-told .given .1) (at-limit-of .limit-of .ensures)
 
 numerator-of-requires : tie.Need-numerator-of-requires
 numerator-of-requires c κs = search needs
@@ -41,22 +43,30 @@ enum-told-2 c = search needs
 
 returns-2 : tie.Need-returns-2
 unfolding quarterOf
-returns-2 c = let s = c .before .before .before .before .before .before .before .before .before in
+returns-2 c =
+    let at-numerator-of = c .before .before in
+    let at-l = at-numerator-of .before .before in
+    let at-limit-of = at-l .before .before in
+    let s = at-limit-of .before .before .before in
     let a = s .args in
     let q = quarterOf (meaning (a .terms)) (a .index) (a .r .now) in
-    λ ref m. exact-unreferred (meaning (a .terms)) ref q (c .before .before .before .before .l .given .1) (c .before .before .before .before .before .before .limit-of .ensures) (c .enum-told2 .given .1) (c .before .before .numerator-of .ensures ref m)
+    λ ref m. exact-unreferred (meaning (a .terms)) ref q (at-l .l .given .1) (at-limit-of .limit-of .ensures) (c .enum-told2 .given .1) (at-numerator-of .numerator-of .ensures ref m)
 
 magnitude-requires : tie.Need-magnitude-requires
 unfolding quarterOf
-magnitude-requires c κs = let s = c .before .before .before .before .before .before .before .before .before .before in
+magnitude-requires c κs =
+    let at-numerator-of = c .before .before .before in
+    let at-l = at-numerator-of .before .before in
+    let at-limit-of = at-l .before .before in
+    let s = at-limit-of .before .before .before in
     let a = s .args in
     let q = quarterOf (meaning (a .terms)) (a .index) (a .r .now) in
     let h = s .pre .held in
-    let l = c .before .before .before .before .before .l .given in
+    let l = at-l .l .given in
     let t = c .before .t .given in
-    let limited = c .before .before .before .before .before .before .before .limit-of .ensures in
+    let limited = at-limit-of .limit-of .ensures in
     let b = means-bounded (a .reference) (a .powers .now) (h .ref) (h .means) (h .bounded) in
-    let small = referred-small (meaning (a .terms)) (h .ref) q (l .1) limited (t .1) (c .before .before .before .numerator-of .ensures (h .ref) (h .means)) b in
+    let small = referred-small (meaning (a .terms)) (h .ref) q (l .1) limited (t .1) (at-numerator-of .numerator-of .ensures (h .ref) (h .means)) b in
     record {
       divisor = s .pre .divides .small;
       reference = subst (λ (z : ℤ). mag z ≤ 4000000000000000000) (sym (back (t .0 .0) (omega (arith, small)))) small;
@@ -65,15 +75,20 @@ magnitude-requires c κs = let s = c .before .before .before .before .before .be
 
 returns-3 : tie.Need-returns-3
 unfolding quarterOf
-returns-3 c = let s = c .before .before .before .before .before .before .before .before .before .before .before in
+returns-3 c =
+    let at-t = c .before .before in
+    let at-numerator-of = at-t .before .before in
+    let at-l = at-numerator-of .before .before in
+    let at-limit-of = at-l .before .before in
+    let s = at-limit-of .before .before .before in
     let a = s .args in
     let q = quarterOf (meaning (a .terms)) (a .index) (a .r .now) in
-    let l = c .before .before .before .before .before .before .l .given in
-    let t = c .before .before .t .given in
-    let limited = c .before .before .before .before .before .before .before .before .limit-of .ensures in
+    let l = at-l .l .given in
+    let t = at-t .t .given in
+    let limited = at-limit-of .limit-of .ensures in
     λ ref m.
     let b = means-bounded (a .reference) (a .powers .now) ref m (s .pre .held .bounded) in
-    let referred = c .before .before .before .before .numerator-of .ensures ref m in
+    let referred = at-numerator-of .numerator-of .ensures ref m in
     exact-is (meaning (a .terms)) ref q (l .1) limited (t .1) referred (s .pre .divides .is (a .powers .now) ref m)
     (c .magnitude .ensures
     ∙ ap (λ (z : ℤ). magnitude (a .terms .direction) (a .d) z (l .0 .0 .0))

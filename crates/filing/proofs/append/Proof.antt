@@ -15,17 +15,22 @@ enum-known-free c = search needs
 
 file-requires : tie.Need-file-requires
 file-requires c κs =
-    let a = c .before .before .before .before .before .before .before .before .args in
-    let p = c .before .before .before .before .destination-for in
-    file-needs (a .archive .now) (a .owner) (a .new .now) (p .result) (p .ensures) _ _ (c .before .before .free .given .1)
+    let at-free = c .before .before in
+    let at-destination-for = at-free .before .before in
+    let entry = at-destination-for .before .before .before .before in
+    let a = entry .args in
+    let p = at-destination-for .destination-for in
+    file-needs (a .archive .now) (a .owner) (a .new .now) (p .result) (p .ensures) _ _ (at-free .free .given .1)
 
 same-length : tie.Need-same-length
 same-length c = search needs
 
 returns : tie.Need-returns
 returns c =
-    let a = c .before .before .before .before .before .before .before .args in
-    let p = c .before .before .before .destination-for in
+    let at-destination-for = c .before .before .before in
+    let entry = at-destination-for .before .before .before .before in
+    let a = entry .args in
+    let p = at-destination-for .destination-for in
     append-refused (a .archive .now) (a .owner) (a .new .now) (p .result) (p .ensures) _ (c .before .number .given .1)
 
 same-length-2 : tie.Need-same-length-2
@@ -33,10 +38,13 @@ same-length-2 c = search needs
 
 returns-2 : tie.Need-returns-2
 returns-2 c =
-    let at-free = c .before .before .before .before .before in
-    let a = at-free .before .before .before .before .before .before .args in
-    let p = at-free .before .before .destination-for in
-    append-done (a .archive .now) (a .owner) (a .new .now) (p .result) (p .ensures) _ _ _ (at-free .free .given .1) (c .before .before .file .ensures)
+    let at-file = c .before .before in
+    let at-free = at-file .before .before .before in
+    let at-destination-for = at-free .before .before in
+    let entry = at-destination-for .before .before .before .before in
+    let a = entry .args in
+    let p = at-destination-for .destination-for in
+    append-done (a .archive .now) (a .owner) (a .new .now) (p .result) (p .ensures) _ _ _ (at-free .free .given .1) (at-file .file .ensures)
 
 pub append-spec : {M : Type 1} → statement M
 append-spec =

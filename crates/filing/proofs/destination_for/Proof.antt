@@ -64,8 +64,10 @@ enum-known-number c = search needs
 
 returns : tie.Need-returns
 returns c =
-    let a = c .before .before .before .before .before .before .args in
-    let r = c .before .before .before .read-head in
+    let at-read-head = c .before .before .before in
+    let entry = at-read-head .before .before .before in
+    let a = entry .args in
+    let r = at-read-head .read-head in
     append-no-head (a .archive .now) (a .owner) (a .new .now) _ (unopened (a .archive .now) (r .result) (r .ensures) _ (c .before .number .given .1))
 
 new-allowed-requires : tie.Need-new-allowed-requires
@@ -73,14 +75,19 @@ new-allowed-requires c κs = search needs
 
 returns-2 : tie.Need-returns-2
 returns-2 c =
-    let a = c .before .before .before .before .before .before .before .before .args in
-    append-bad-record (a .archive .now) (a .owner) (a .new .now) _ (used-is (c .before .before .before)) (sym (c .before .new-allowed .ensures) ∙ not-true _ (c .if1 .taken))
+    let early = c .before .before .before in
+    let entry = early .before .before .before .before .before in
+    let a = entry .args in
+    append-bad-record (a .archive .now) (a .owner) (a .new .now) _ (used-is early) (sym (c .before .new-allowed .ensures) ∙ not-true _ (c .if1 .taken))
 
 kind-of-requires : tie.Need-kind-of-requires
 kind-of-requires c κs = allowed-new (c .before .before .before .before .before .before .before .before .args .new .now) (allowed c) .size
 
 offset-for-requires : tie.Need-offset-for-requires
-offset-for-requires c κs = used-within (c .before .before .before .before .before .before .before .before .before .args .archive .now) _ (used-is (c .before .before .before .before)) .1
+offset-for-requires c κs =
+    let early = c .before .before .before .before in
+    let entry = early .before .before .before .before .before in
+    used-within (entry .args .archive .now) _ (used-is early) .1
 
 enum-known-at : tie.Need-enum-known-at
 enum-known-at c = search needs
@@ -92,9 +99,11 @@ returns-3 : tie.Need-returns-3
 returns-3 c =
     let at-offset-for = c .before .before .before in
     let s = at-offset-for .before .before in
-    let a = s .before .before .before .before .before .before .before .before .args in
+    let early = s .before .before .before in
+    let entry = early .before .before .before .before .before in
+    let a = entry .args in
     let k = at-offset-for .before .kind-of in
-    append-bad-owner (a .archive .now) (a .owner) (a .new .now) _ (used-is (s .before .before .before)) (allowed s) (k .result) (k .ensures) _
+    append-bad-owner (a .archive .now) (a .owner) (a .new .now) _ (used-is early) (allowed s) (k .result) (k .ensures) _
     (offset-says (at-offset-for .offset-for .ensures) (c .before .number2 .given .1))
 
 walk-all-requires : tie.Need-walk-all-requires
@@ -107,13 +116,24 @@ enum-known-number-3 : tie.Need-enum-known-number-3
 enum-known-number-3 c = search needs
 
 returns-4 : tie.Need-returns-4
-returns-4 c = chain-refused (tested (c .before .before .before .before .before)) (c .before .before .before .walk-all .ensures) (c .before .number3 .given .1)
+returns-4 c =
+    let at-walk-all = c .before .before .before in
+    let early = at-walk-all .before .before in
+    chain-refused (tested early) (at-walk-all .walk-all .ensures) (c .before .number3 .given .1)
 
 returns-5 : tie.Need-returns-5
-returns-5 c = chain-full (tested (c .before .before .before .before .before .before)) (c .before .before .before .before .walk-all .ensures) (c .before .before .last .given .1) (c .if2 .taken)
+returns-5 c =
+    let at-last = c .before .before in
+    let at-walk-all = at-last .before .before in
+    let early = at-walk-all .before .before in
+    chain-full (tested early) (at-walk-all .walk-all .ensures) (at-last .last .given .1) (c .if2 .taken)
 
 returns-6 : tie.Need-returns-6
-returns-6 c = chain-joined (tested (c .before .before .before .before .before .before)) (c .before .before .before .before .walk-all .ensures) (c .before .before .last .given .1) (c .if2 .left)
+returns-6 c =
+    let at-last = c .before .before in
+    let at-walk-all = at-last .before .before in
+    let early = at-walk-all .before .before in
+    chain-joined (tested early) (at-walk-all .walk-all .ensures) (at-last .last .given .1) (c .if2 .left)
 
 pub destination-for-spec : {M : Type 1} → statement M
 destination-for-spec =

@@ -29,10 +29,11 @@ same-length c = search needs
 returns : tie.Need-returns
 unfolding appendAfter
 returns c =
-    let two = c .before .before .before .before .before .before in
+    let at-put-word2 = c .before .before in
+    let two = at-put-word2 .before .before .before .before in
     let one = two .before .before .before .before in
     let a = one .before .before .before .before .args in
-    c .before .before .put-word2 .ensures
+    at-put-word2 .put-word2 .ensures
     ∙ ap (λ (l : List ℕ). put l 4 (word (a .used + 1))) (two .put-word .ensures ∙ ap (λ (l : List ℕ). put l (a .last) (word (a .used))) (one .put-bytes .ensures))
 
 pub file-spec : {M : Type 1} → statement M

@@ -41,8 +41,9 @@ slice-aggregate-put-bytes c = search needs
 
 put-bytes-requires : tie.Need-put-bytes-requires
 put-bytes-requires c κs =
-    let s = c .before .before .before .before .before .before in
-    let zeros = c .before .before .before .before .clear in
+    let at-clear = c .before .before .before .before in
+    let s = at-clear .before .before in
+    let zeros = at-clear .clear in
     fresh-fits (s .before .before .before .args .archive .now) (whole s) (zeros .last .0) (zeros .kept .0)
 
 same-length : tie.Need-same-length
@@ -50,9 +51,11 @@ same-length c = search needs
 
 returns-2 : tie.Need-returns-2
 returns-2 c =
-    let s = c .before .before .before .before .before .before .before .before .before in
-    let zeros = c .before .before .before .before .before .before .before .clear in
-    fresh-done (s .before .before .before .args .archive .now) (whole s) (zeros .last .0) _ (zeros .ensures) (c .before .before .put-bytes .ensures)
+    let at-put-bytes = c .before .before in
+    let at-clear = at-put-bytes .before .before .before .before .before in
+    let s = at-clear .before .before in
+    let zeros = at-clear .clear in
+    fresh-done (s .before .before .before .args .archive .now) (whole s) (zeros .last .0) _ (zeros .ensures) (at-put-bytes .put-bytes .ensures)
 
 pub fresh-spec : {M : Type 1} → statement M
 fresh-spec =

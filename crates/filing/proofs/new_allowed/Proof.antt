@@ -52,14 +52,20 @@ is-kind-requires c κs = search needs
 
 returns-2 : tie.Need-returns-2 Inv-loop μ-loop
 returns-2 c =
-    let k = c .before .before .kind-of .ensures in
-    sym (new-unknown (c .before .before .before .before .before .args .new .now) (c .before .before .before .if1 .left) (ap isKind (sym k) ∙ sym (c .before .is-kind .ensures) ∙ not-true _ (c .if2 .taken)))
+    let at-kind-of = c .before .before in
+    let at-if1 = at-kind-of .before in
+    let entry = at-if1 .before .before in
+    let k = at-kind-of .kind-of .ensures in
+    sym (new-unknown (entry .args .new .now) (at-if1 .if1 .left) (ap isKind (sym k) ∙ sym (c .before .is-kind .ensures) ∙ not-true _ (c .if2 .taken)))
 
 loop-holds : tie.Need-loop-holds Inv-loop μ-loop
 loop-holds c =
-    let known = ap isKind (sym (c .before .before .kind-of .ensures)) ∙ sym (c .before .is-kind .ensures) ∙ not-false _ (c .if2 .left) in
-    let size = c .before .before .before .if1 .left in
-    (record { is = new-links (c .before .before .before .before .before .args .new .now) size known }, size)
+    let at-kind-of = c .before .before in
+    let at-if1 = at-kind-of .before in
+    let entry = at-if1 .before .before in
+    let known = ap isKind (sym (at-kind-of .kind-of .ensures)) ∙ sym (c .before .is-kind .ensures) ∙ not-false _ (c .if2 .left) in
+    let size = at-if1 .if1 .left in
+    (record { is = new-links (entry .args .new .now) size known }, size)
 
 slot-of-requires : tie.Need-slot-of-requires Inv-loop μ-loop
 slot-of-requires c κs = c .before .loop .inv .1
@@ -74,7 +80,10 @@ link-at-requires : tie.Need-link-at-requires Inv-loop μ-loop
 link-at-requires c κs = let w = links-within _ _ (slot (c .before) .has) in omega arith
 
 returns-3 : tie.Need-returns-3 Inv-loop μ-loop
-returns-3 c = sym (new-linked (c .before .before .before .before .before .before .before .loop .inv .0) (slot (c .before .before .before)) (λ e. c .if3 .taken (c .before .link-at .ensures .0 ∙ e)))
+returns-3 c =
+    let early = c .before .before .before in
+    let at-loop = early .before .before .before .before in
+    sym (new-linked (at-loop .loop .inv .0) (slot early) (λ e. c .if3 .taken (c .before .link-at .ensures .0 ∙ e)))
 
 add-i : tie.Need-add-i Inv-loop μ-loop
 add-i c = omega arith
@@ -84,14 +93,19 @@ loop-less c = omega arith
 
 loop-again : tie.Need-loop-again Inv-loop μ-loop
 loop-again c =
-    let l = c .before .before .before .before .before .before .before .loop in
-    (new-on (l .inv .0) (slot (c .before .before .before)) (sym (c .before .link-at .ensures .0) ∙ c .if3 .left), l .inv .1)
+    let early = c .before .before .before in
+    let at-loop = early .before .before .before .before in
+    let l = at-loop .loop in
+    (new-on (l .inv .0) (slot early) (sym (c .before .link-at .ensures .0) ∙ c .if3 .left), l .inv .1)
 
 returns-4 : tie.Need-returns-4 Inv-loop μ-loop
 returns-4 c = sym (new-none (c .before .loop .inv .0) (past-all _ (links-few _) (c .loop-test .left)))
 
 returns-5 : tie.Need-returns-5 Inv-loop μ-loop
-returns-5 c = sym (new-none (c .before .before .before .before .loop .inv .0) (past _ _ (c .before .before .slot-of .ensures) (c .enum-told .given .1)))
+returns-5 c =
+    let at-slot-of = c .before .before in
+    let at-loop = at-slot-of .before .before in
+    sym (new-none (at-loop .loop .inv .0) (past _ _ (at-slot-of .slot-of .ensures) (c .enum-told .given .1)))
 
 pub new-allowed-spec : {M : Type 1} → statement M
 new-allowed-spec =

@@ -47,7 +47,10 @@ enum-told : tie.Need-enum-told Inv-loop μ-loop
 enum-told c = search needs
 
 returns-2 : tie.Need-returns-2 Inv-loop μ-loop
-returns-2 c = sym (offset-is (c .before .before .before .before .before .before .before .loop .inv .0) (slot (c .before .before .before)) (c .before .if2 .taken) (c .if3 .taken))
+returns-2 c =
+    let early = c .before .before .before in
+    let at-loop = early .before .before .before .before in
+    sym (offset-is (at-loop .loop .inv .0) (slot early) (c .before .if2 .taken) (c .if3 .taken))
 
 add-i : tie.Need-add-i Inv-loop μ-loop
 add-i c = omega arith
@@ -57,15 +60,20 @@ loop-less c = omega arith
 
 loop-again : tie.Need-loop-again Inv-loop μ-loop
 loop-again c =
-    let l = c .before .before .before .before .before .before .loop in
-    let h = slot (c .before .before) in
+    let early = c .before .before in
+    let at-loop = early .before .before .before .before in
+    let l = at-loop .loop in
+    let h = slot early in
     (⊎-elim (λ w. offset-other (l .inv .0) h (w .1 .left)) (λ w. offset-next (l .inv .0) h (w .left)) (c .if2 .came), l .inv .1)
 
 returns-3 : tie.Need-returns-3 Inv-loop μ-loop
 returns-3 c = sym (offset-none (c .before .loop .inv .0) (past-all _ (at-few _ _) (c .loop-test .left)))
 
 returns-4 : tie.Need-returns-4 Inv-loop μ-loop
-returns-4 c = sym (offset-none (c .before .before .before .before .loop .inv .0) (past _ _ (c .before .before .slot-at .ensures) (c .enum-told .given .1)))
+returns-4 c =
+    let at-slot-at = c .before .before in
+    let at-loop = at-slot-at .before .before in
+    sym (offset-none (at-loop .loop .inv .0) (past _ _ (at-slot-at .slot-at .ensures) (c .enum-told .given .1)))
 
 pub offset-for-spec : {M : Type 1} → statement M
 offset-for-spec =

@@ -18,9 +18,12 @@ same-length c = search needs
 
 returns : tie.Need-returns
 returns c =
-    let s = c .before .before .before .before .before .before .before .before .before .before .before .before .before in
-    three-places (s .args .result .now) (c .before .before .before .before .before .before .before .before .before .before .put-place .last .0) (c .before .before .before .before .before .before .put-place2 .last .0) (c .before .before .put-place3 .last .0) (s .args .count) (s .args .total) (s .args .links) (s .pre)
-    (c .before .before .before .before .before .before .before .before .before .before .put-place .ensures) (c .before .before .before .before .before .before .put-place2 .ensures) (c .before .before .put-place3 .ensures)
+    let at-put-place3 = c .before .before in
+    let at-put-place2 = at-put-place3 .before .before .before .before in
+    let at-put-place = at-put-place2 .before .before .before .before in
+    let s = at-put-place .before .before .before in
+    three-places (s .args .result .now) (at-put-place .put-place .last .0) (at-put-place2 .put-place2 .last .0) (at-put-place3 .put-place3 .last .0) (s .args .count) (s .args .total) (s .args .links) (s .pre)
+    (at-put-place .put-place .ensures) (at-put-place2 .put-place2 .ensures) (at-put-place3 .put-place3 .ensures)
 
 pub put-result-spec : {M : Type 1} → statement M
 put-result-spec =

@@ -12,8 +12,10 @@ append-requires c κs = search needs
 
 cast-result : tie.Need-cast-result
 cast-result c =
-    let a = c .before .before .before .before .before .before .args in
-    number-fits appendRefusals refl _ (every-call-answers .appends (a .archive .now) (a .owner) (a .new .now)) _ (c .before .before .append .ensures .answers)
+    let at-append = c .before .before in
+    let entry = at-append .before .before .before .before in
+    let a = entry .args in
+    number-fits appendRefusals refl _ (every-call-answers .appends (a .archive .now) (a .owner) (a .new .now)) _ (at-append .append .ensures .answers)
 
 same-length : tie.Need-same-length
 same-length c = search needs

@@ -11,7 +11,10 @@ fresh-requires : tie.Need-fresh-requires
 fresh-requires c κs = search needs
 
 cast-result : tie.Need-cast-result
-cast-result c = number-fits freshRefusals refl _ (every-call-answers .freshens (c .before .before .before .before .before .args .archive .now)) _ (c .before .before .fresh .ensures .answers)
+cast-result c =
+    let at-fresh = c .before .before in
+    let entry = at-fresh .before .before .before in
+    number-fits freshRefusals refl _ (every-call-answers .freshens (entry .args .archive .now)) _ (at-fresh .fresh .ensures .answers)
 
 same-length : tie.Need-same-length
 same-length c = search needs

@@ -8,13 +8,19 @@ show-requires : tie.Need-show-requires
 show-requires c κs = search needs
 
 returns : tie.Need-returns
-returns c = shown-none (c .before .before .before .args .archive .now) (c .before .before .before .args .number) _ (c .before .show .ensures .content) (c .if1 .taken)
+returns c =
+    let entry = c .before .before .before in
+    shown-none (entry .args .archive .now) (entry .args .number) _ (c .before .show .ensures .content) (c .if1 .taken)
 
 mul-result : tie.Need-mul-result
-mul-result c = record { fits = shown-some (c .before .before .before .args .archive .now) (c .before .before .before .args .number) _ (c .before .show .ensures .content) (c .if1 .left) .0 }
+mul-result c =
+    let entry = c .before .before .before in
+    record { fits = shown-some (entry .args .archive .now) (entry .args .number) _ (c .before .show .ensures .content) (c .if1 .left) .0 }
 
 returns-2 : tie.Need-returns-2
-returns-2 c = shown-some (c .before .before .before .args .archive .now) (c .before .before .before .args .number) _ (c .before .show .ensures .content) (c .if1 .left) .1
+returns-2 c =
+    let entry = c .before .before .before in
+    shown-some (entry .args .archive .now) (entry .args .number) _ (c .before .show .ensures .content) (c .if1 .left) .1
 
 pub sandegmur-show-spec : {M : Type 1} → statement M
 sandegmur-show-spec = tie.close (tie.spec show-requires returns mul-result returns-2)

@@ -107,8 +107,9 @@ inverse-of-requires c κs = stands (c .before .before .before) .positive
 
 slice-reshare-prefix-book-bytes : tie.Need-slice-reshare-prefix-book-bytes
 slice-reshare-prefix-book-bytes c =
-    let m = c .before .before .before .before in
-    in-sheet (stands m) (roomy m) (c .before .before .if1 .left)
+    let at-if1 = c .before .before in
+    let m = at-if1 .before .before in
+    in-sheet (stands m) (roomy m) (at-if1 .if1 .left)
 
 slice-aggregate-book-bytes : tie.Need-slice-aggregate-book-bytes
 slice-aggregate-book-bytes c =
@@ -146,12 +147,14 @@ same-length-6 c = search needs
 
 returns-4 : tie.Need-returns-4
 returns-4 c =
-    let b = c .before .before .before .before .before .before .before in
+    let at-put-result = c .before .before in
+    let at-bits-of = at-put-result .before in
+    let b = at-bits-of .before .before .before .before in
     let i = b .before .before .before .before in
     let m = i .before .before .before in
     let a = began m .args in
     all-written (a .archive .now) (a .p) (a .k) (a .list .now) (a .result .now) _ _ (stands m) (roomy m) (i .before .if1 .left) (i .if2 .left)
-    _ _ (b .book-bytes .result) _ (b .book-bytes .ensures .0) (b .book-bytes .ensures .1) (c .before .before .before .bits-of .ensures) (c .before .before .put-result .ensures)
+    _ _ (b .book-bytes .result) _ (b .book-bytes .ensures .0) (b .book-bytes .ensures .1) (at-bits-of .bits-of .ensures) (at-put-result .put-result .ensures)
 
 pub settle-on-spec : {M : Type 1} → statement M
 settle-on-spec =

@@ -18,8 +18,11 @@ enum-told : tie.Need-enum-told
 enum-told c = search needs
 
 returns : tie.Need-returns
-returns c = let s = c .before .before .before .before in let r = s .args .r .now in
-    limited-measured (meaning (s .args .terms)) (fieldAt r 8) (fieldAt r 12) (subst (PowerOf (fieldAt r 8)) (c .enum-told .given .1) (c .before .before .power-at .ensures))
+returns c =
+    let at-power-at = c .before .before in
+    let s = at-power-at .before .before in
+    let r = s .args .r .now in
+    limited-measured (meaning (s .args .terms)) (fieldAt r 8) (fieldAt r 12) (subst (PowerOf (fieldAt r 8)) (c .enum-told .given .1) (at-power-at .power-at .ensures))
 
 enum-told-2 : tie.Need-enum-told-2
 enum-told-2 c = search needs
@@ -34,9 +37,15 @@ enum-told-3 : tie.Need-enum-told-3
 enum-told-3 c = search needs
 
 returns-2 : tie.Need-returns-2
-returns-2 c = let s = c .before .before .before .before .before .before .before .before .before .before in let r = s .args .r .now in
-    limited-limit (meaning (s .args .terms)) (fieldAt r 8) (fieldAt r 12) _ (subst (PowerOf (fieldAt r 8)) (c .before .before .before .before .before .before .measured .given .1) (c .before .before .before .before .before .before .before .before .power-at .ensures)) (c .before .before .before .enum-told2 .given .1)
-    (subst (PowerOf (fieldAt r 12)) (c .enum-told3 .given .1) (c .before .before .power-at2 .ensures))
+returns-2 c =
+    let at-power-at2 = c .before .before in
+    let at-enum-told2 = at-power-at2 .before in
+    let at-measured = at-enum-told2 .before .before .before in
+    let at-power-at = at-measured .before .before in
+    let s = at-power-at .before .before in
+    let r = s .args .r .now in
+    limited-limit (meaning (s .args .terms)) (fieldAt r 8) (fieldAt r 12) _ (subst (PowerOf (fieldAt r 8)) (at-measured .measured .given .1) (at-power-at .power-at .ensures)) (at-enum-told2 .enum-told2 .given .1)
+    (subst (PowerOf (fieldAt r 12)) (c .enum-told3 .given .1) (at-power-at2 .power-at2 .ensures))
 
 limitation-requires : tie.Need-limitation-requires
 limitation-requires c κs = search needs
@@ -48,17 +57,32 @@ enum-told-5 : tie.Need-enum-told-5
 enum-told-5 c = search needs
 
 returns-3 : tie.Need-returns-3
-returns-3 c = let s = c .before .before .before .before .before .before .before .before .before .before .before .before in let r = s .args .r .now in
-    limited-requested (meaning (s .args .terms)) (fieldAt r 8) (fieldAt r 12) _ (subst (PowerOf (fieldAt r 8)) (c .before .before .before .before .before .before .before .before .measured .given .1) (c .before .before .before .before .before .before .before .before .before .before .power-at .ensures)) (c .before .before .before .before .before .enum-told2 .given .1) _ _
-    (subst (PowerOf (fieldAt r 12)) (c .before .before .limit .given .1) (c .before .before .before .before .power-at2 .ensures)) (c .limitation .ensures)
+returns-3 c =
+    let at-limit = c .before .before in
+    let at-power-at2 = at-limit .before .before in
+    let at-enum-told2 = at-power-at2 .before in
+    let at-measured = at-enum-told2 .before .before .before in
+    let at-power-at = at-measured .before .before in
+    let s = at-power-at .before .before in
+    let r = s .args .r .now in
+    limited-requested (meaning (s .args .terms)) (fieldAt r 8) (fieldAt r 12) _ (subst (PowerOf (fieldAt r 8)) (at-measured .measured .given .1) (at-power-at .power-at .ensures)) (at-enum-told2 .enum-told2 .given .1) _ _
+    (subst (PowerOf (fieldAt r 12)) (at-limit .limit .given .1) (at-power-at2 .power-at2 .ensures)) (c .limitation .ensures)
 
 returns-4 : tie.Need-returns-4
-returns-4 c = let s = c .before .before .before .before .before .before .before in let r = s .args .r .now in
-    limited-tolerated (meaning (s .args .terms)) (fieldAt r 8) (fieldAt r 12) _ (subst (PowerOf (fieldAt r 8)) (c .before .before .before .measured .given .1) (c .before .before .before .before .before .power-at .ensures)) (c .enum-told4 .given .1)
+returns-4 c =
+    let at-measured = c .before .before .before in
+    let at-power-at = at-measured .before .before in
+    let s = at-power-at .before .before in
+    let r = s .args .r .now in
+    limited-tolerated (meaning (s .args .terms)) (fieldAt r 8) (fieldAt r 12) _ (subst (PowerOf (fieldAt r 8)) (at-measured .measured .given .1) (at-power-at .power-at .ensures)) (c .enum-told4 .given .1)
 
 returns-5 : tie.Need-returns-5
-returns-5 c = let s = c .before .before .before .before .before .before .before in let r = s .args .r .now in
-    limited-fixed (meaning (s .args .terms)) (fieldAt r 8) (fieldAt r 12) _ (subst (PowerOf (fieldAt r 8)) (c .before .before .before .measured .given .1) (c .before .before .before .before .before .power-at .ensures)) (c .enum-told5 .given .1)
+returns-5 c =
+    let at-measured = c .before .before .before in
+    let at-power-at = at-measured .before .before in
+    let s = at-power-at .before .before in
+    let r = s .args .r .now in
+    limited-fixed (meaning (s .args .terms)) (fieldAt r 8) (fieldAt r 12) _ (subst (PowerOf (fieldAt r 8)) (at-measured .measured .given .1) (at-power-at .power-at .ensures)) (c .enum-told5 .given .1)
 
 pub limit-of-spec : {M : Type 1} → statement M
 limit-of-spec =

@@ -75,8 +75,9 @@ same-length c = search needs
 
 returns : tie.Need-returns
 returns c =
-    let u = c .before .before .before in
-    let f = c .before .before .add-point in
+    let at-add-point = c .before .before in
+    let u = at-add-point .before in
+    let f = at-add-point .add-point in
     let v = u .before .speed-of in
     let s = u .before .before .before in
     let a = s .before .before .before .before .before .before .before .before .args in

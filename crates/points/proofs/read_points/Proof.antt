@@ -54,8 +54,9 @@ same-length c = c .before .before .before .before .loop .inv .1 .size
 
 returns : tie.Need-returns Inv-loop μ-loop
 returns c =
-    let f = c .before .before .follow in
-    let t = c .before .before .before in
+    let at-follow = c .before .before in
+    let t = at-follow .before in
+    let f = at-follow .follow in
     let l = t .before .loop in
     let i = t .before .before in
     let a = i .before .before .before .args in
@@ -130,9 +131,11 @@ loop-again c =
     let p = c .before .before .before in
     let f = p .read-point in
     let r = p .before .before .before in
+    let at-loop = r .before .before .before .before .before in
+    let entry = at-loop .before .before .before .before in
     let m = met-at r in
-    let l = r .before .before .before .before .before .loop in
-    let a = r .before .before .before .before .before .before .before .before .before .args in
+    let l = at-loop .loop in
+    let a = entry .args in
     let n = r .before .answer .given .0 .0 in
     let e = f .ensures ∙ ap (λ (x : List ℕ). withRecord x (walk (l .read) (l .powers))) (record-part (a .archive .now) n) in (
       walk-turns stepped (a .archive .now) (a .place .used) pointKind (l .inv .0) m (c .link-of2 .ensures .0) e,
@@ -147,8 +150,9 @@ same-length-2 c = c .before .before .loop .inv .1 .size
 
 returns-2 : tie.Need-returns-2 Inv-loop μ-loop
 returns-2 c =
-    let l = c .before .before .loop in
-    let i = c .before .before .before in
+    let at-loop = c .before .before in
+    let i = at-loop .before in
+    let l = at-loop .loop in
     let s = i .before .before .before in
     let a = s .args in
     walk-answers (a .archive .now) (a .place) (i .link-of .result) (i .link-of .ensures .0) (a .powers .now) (s .pre .1 .size) (s .pre .1 .low)

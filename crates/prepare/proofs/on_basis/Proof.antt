@@ -54,8 +54,10 @@ returns-2 : tie.Need-returns-2
 returns-2 c =
     let n = c .before .before .before .before in
     let w = n .before .before .before .before in
-    let d = w .before .before .denominator .ensures in
-    let a = w .before .before .before .before .before .before .args in
+    let at-denominator = w .before .before in
+    let entry = at-denominator .before .before .before .before in
+    let d = at-denominator .denominator .ensures in
+    let a = entry .args in
     record {
       on = λ b s.
           let by = w .walk .ensures .by b (s .means) in

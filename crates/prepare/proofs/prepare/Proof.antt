@@ -32,8 +32,10 @@ with-curve-requires c κs =
     let i = c .before in
     let n = i .before in
     let s = n .before .before .before .before in
-    let a = s .before .before .before .before .before .args in
-    let f = s .before .before .find in
+    let at-find = s .before .before in
+    let entry = at-find .before .before .before in
+    let a = entry .args in
+    let f = at-find .find in
     (lies-whole (a .archive .now) (located (a .archive .now) (a .p) (a .k) (f .result) _ (f .ensures) (s .place .given .1) .lies), sym (n .needs-curve .ensures) ∙ i .if1 .taken)
 
 same-length : tie.Need-same-length
@@ -41,10 +43,13 @@ same-length c = search needs
 
 returns : tie.Need-returns
 returns c =
-    let w = c .before .before .with-curve in
-    let s = c .before .before .before .before .before .before .before .before .before in
-    let a = s .before .before .before .before .before .args in
-    let f = s .before .before .find in
+    let at-with-curve = c .before .before in
+    let s = at-with-curve .before .before .before .before .before .before .before in
+    let at-find = s .before .before in
+    let entry = at-find .before .before .before in
+    let w = at-with-curve .with-curve in
+    let a = entry .args in
+    let f = at-find .find in
     let l = located (a .archive .now) (a .p) (a .k) (f .result) _ (f .ensures) (s .place .given .1) in
     at-whole (a .archive .now) (a .p) (a .k) _ (s .place .given .0 .0) (w .result) (l .is) (w .ensures)
 
@@ -53,8 +58,10 @@ without-curve-requires c κs =
     let i = c .before in
     let n = i .before in
     let s = n .before .before .before .before in
-    let a = s .before .before .before .before .before .args in
-    let f = s .before .before .find in
+    let at-find = s .before .before in
+    let entry = at-find .before .before .before in
+    let a = entry .args in
+    let f = at-find .find in
     (lies-whole (a .archive .now) (located (a .archive .now) (a .p) (a .k) (f .result) _ (f .ensures) (s .place .given .1) .lies), sym (n .needs-curve .ensures) ∙ i .if1 .left)
 
 returns-2 : tie.Need-returns-2
@@ -68,10 +75,13 @@ same-length-2 c = search needs
 
 returns-3 : tie.Need-returns-3
 returns-3 c =
-    let w = c .before .before .without-curve in
-    let s = c .before .before .before .before .before .before .before .before .before in
-    let a = s .before .before .before .before .before .args in
-    let f = s .before .before .find in
+    let at-without-curve = c .before .before in
+    let s = at-without-curve .before .before .before .before .before .before .before in
+    let at-find = s .before .before in
+    let entry = at-find .before .before .before in
+    let w = at-without-curve .without-curve in
+    let a = entry .args in
+    let f = at-find .find in
     let l = located (a .archive .now) (a .p) (a .k) (f .result) _ (f .ensures) (s .place .given .1) in
     at-whole (a .archive .now) (a .p) (a .k) _ (s .place .given .0 .0) (w .result) (l .is) (w .ensures)
 

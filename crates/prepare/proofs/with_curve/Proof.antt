@@ -44,8 +44,9 @@ same-length c = search needs
 
 returns-2 : tie.Need-returns-2
 returns-2 c =
-    let o = c .before .before .on-basis in
-    let b = c .before .before .before .before .before .before in
+    let at-on-basis = c .before .before in
+    let b = at-on-basis .before .before .before .before in
+    let o = at-on-basis .on-basis in
     let f = b .before .before .before in
     let a = f .before .before .before .before .args in
     on-standing (a .archive .now) (meant (a .archive .now) (a .place)) _ (f .on-curve .result) (f .on-curve .ensures) _ (o .result) _ (b .basis .given .1) (o .ensures)

@@ -14,7 +14,10 @@ returns : tie.Need-returns
 returns c = search needs
 
 returns-2 : tie.Need-returns-2
-returns-2 c = entered-past (c .before .before .before .before .args .sheet .now) (c .before .before .before .before .args .count) _ _ (c .before .before .magnitude .given .1) (c .if1 .taken)
+returns-2 c =
+    let at-magnitude = c .before .before in
+    let entry = at-magnitude .before .before in
+    entered-past (entry .args .sheet .now) (entry .args .count) _ _ (at-magnitude .magnitude .given .1) (c .if1 .taken)
 
 mul-sheet : tie.Need-mul-sheet
 mul-sheet c = search needs
@@ -26,7 +29,10 @@ same-length : tie.Need-same-length
 same-length c = search needs
 
 returns-3 : tie.Need-returns-3
-returns-3 c = entered-at (c .before .before .before .before .args .sheet .now) (c .before .before .before .before .args .count) _ _ (c .before .before .magnitude .given .1)
+returns-3 c =
+    let at-magnitude = c .before .before in
+    let entry = at-magnitude .before .before in
+    entered-at (entry .args .sheet .now) (entry .args .count) _ _ (at-magnitude .magnitude .given .1)
 
 pub enter-spec : {M : Type 1} → statement M
 enter-spec =

@@ -152,8 +152,9 @@ same-length-2 c =
 
 returns-2 : tie.Need-returns-2 Inv-loop μ-loop
 returns-2 c =
-    let t = c .before .before .before in
-    walks-uncounted (t .before .before .before .before .before .before .args .place) (t .before .link-of .ensures .0) (t .loop .inv) (c .before .before .loop-test .left) (sym (c .before .in-count-range .ensures) ∙ not-true _ (c .if1 .taken))
+    let at-loop-test = c .before .before in
+    let t = at-loop-test .before in
+    walks-uncounted (t .before .before .before .before .before .before .args .place) (t .before .link-of .ensures .0) (t .loop .inv) (at-loop-test .loop-test .left) (sym (c .before .in-count-range .ensures) ∙ not-true _ (c .if1 .taken))
 
 same-length-3 : tie.Need-same-length-3 Inv-loop μ-loop
 same-length-3 c =

@@ -15,7 +15,9 @@ returns : tie.Need-returns
 returns c = out-of-range isPower (c .before .in-power-range .ensures) (c .before .before .watt-at .ensures) (c .if1 .taken)
 
 returns-2 : tie.Need-returns-2
-returns-2 c = (in-range isPower (c .before .in-power-range .ensures) (c .before .before .watt-at .ensures) (c .if1 .left), c .before .before .watt-at .ensures)
+returns-2 c =
+    let at-watt-at = c .before .before in
+    (in-range isPower (c .before .in-power-range .ensures) (at-watt-at .watt-at .ensures) (c .if1 .left), at-watt-at .watt-at .ensures)
 
 pub power-at-spec : {M : Type 1} → statement M
 power-at-spec = tie.close (tie.spec watt-at-requires in-power-range-requires returns returns-2)

@@ -39,8 +39,10 @@ slot-of-requires c κs = search needs
 
 returns-3 : tie.Need-returns-3
 returns-3 c =
-    let a = c .before .before .before .before .args in
-    slot-is (links-at (a .archive .now) (a .n) (omega (arith, c .before .before .if1 .left)) ∙ sym (ap linksOf (record-part (a .archive .now) (a .n)))) refl
+    let at-if1 = c .before .before in
+    let entry = at-if1 .before .before in
+    let a = entry .args in
+    slot-is (links-at (a .archive .now) (a .n) (omega (arith, at-if1 .if1 .left)) ∙ sym (ap linksOf (record-part (a .archive .now) (a .n)))) refl
     (c .slot-of .ensures)
 
 pub slot-at-spec : {M : Type 1} → statement M

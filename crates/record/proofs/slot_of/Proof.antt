@@ -49,8 +49,11 @@ returns-4 c = slot-is (plant-links _ (known (c .before .before .before)) (plant 
 
 returns-5 : tie.Need-returns-5
 returns-5 c =
-    slot-none (c .before .before .before .before .before .before .before .args .i) (plant-links _ (known (c .before .before .before)) (plant (c .before)))
-    (omega (arith, c .before .before .if2 .left, c .match .rest .0 .1, c .match .rest .1))
+    let at-if2 = c .before .before in
+    let early = at-if2 .before in
+    let entry = early .before .before .before .before in
+    slot-none (entry .args .i) (plant-links _ (known early) (plant (c .before)))
+    (omega (arith, at-if2 .if2 .left, c .match .rest .0 .1, c .match .rest .1))
 
 -- a measure: its before-quarters and its quarters
 
@@ -71,10 +74,14 @@ returns-8 c =
 
 returns-9 : tie.Need-returns-9
 returns-9 c =
-    let k = c .before .before .before .before .before .kind-of .ensures in
-    slot-none (c .before .before .before .before .before .before .before .args .i)
-    (other-links _ (known (c .before .before .before)) (λ e. c .before .if3 .left (k ∙ e)) (λ e. c .if4 .left (k ∙ e)))
-    (omega (arith, c .before .before .if2 .left))
+    let at-if2 = c .before .before in
+    let early = at-if2 .before in
+    let at-kind-of = early .before .before in
+    let entry = at-kind-of .before .before in
+    let k = at-kind-of .kind-of .ensures in
+    slot-none (entry .args .i)
+    (other-links _ (known early) (λ e. c .before .if3 .left (k ∙ e)) (λ e. c .if4 .left (k ∙ e)))
+    (omega (arith, at-if2 .if2 .left))
 
 pub slot-of-spec : {M : Type 1} → statement M
 slot-of-spec =

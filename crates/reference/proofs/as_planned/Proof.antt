@@ -21,7 +21,10 @@ returns : tie.Need-returns
 returns c = λ q e. ap isPower e ∙ subst (PowerOf _) (c .enum-told .given .1) (c .before .before .power-at .ensures)
 
 returns-2 : tie.Need-returns-2
-returns-2 c = λ q e. planned-referred q _ _ (subst (PowerOf _) (c .before .before .planned .given .1) (c .before .before .before .before .power-at .ensures)) (back _ (c .struct-told .given .0 .1)) e
+returns-2 c =
+    let at-planned = c .before .before in
+    let at-power-at = at-planned .before .before in
+    λ q e. planned-referred q _ _ (subst (PowerOf _) (at-planned .planned .given .1) (at-power-at .power-at .ensures)) (back _ (c .struct-told .given .0 .1)) e
 
 pub as-planned-spec : {M : Type 1} → statement M
 as-planned-spec =

@@ -23,7 +23,10 @@ returns-2 : tie.Need-returns-2
 returns-2 c = λ q m n. factor-month-high q (orZero (c .before .before .args .pn .0)) m n (c .before .if1 .left) (c .if2 .taken)
 
 returns-3 : tie.Need-returns-3
-returns-3 c = λ q m n. factor-quarter q (orZero (c .before .before .before .args .pn .0)) m n (c .before .before .if1 .left) (c .before .if2 .left) (c .if3 .taken)
+returns-3 c =
+    let at-if1 = c .before .before in
+    let entry = at-if1 .before in
+    λ q m n. factor-quarter q (orZero (entry .args .pn .0)) m n (at-if1 .if1 .left) (c .before .if2 .left) (c .if3 .taken)
 
 plant-factor-requires : tie.Need-plant-factor-requires
 plant-factor-requires c κs = search needs
@@ -35,19 +38,26 @@ cast-t6 c = let s = c .before .before .before .before in
     search needs
 
 mul-t7 : tie.Need-mul-t7
-mul-t7 c = let s = c .before .before .before .before .before .before in
-    let v = c .before .before .plant-factor in
+mul-t7 c =
+    let at-plant-factor = c .before .before in
+    let s = at-plant-factor .before .before .before .before in
+    let v = at-plant-factor .plant-factor in
     let f : v .result ≤ 10000 = omega (arith, v .ensures, factor-small (s .args .month) (s .args .quarter)) in
     let h = up-to-small (s .pre) in
     times-fits (s .args .pn .0) (pos (v .result)) _ _ _ 1000000001 10000 (back (s .args .pn .0) (omega (arith, h))) (toZ-pos w64 (omega (arith, f))) refl (omega (arith, h)) f (omega arith)
 
 returns-4 : tie.Need-returns-4
-returns-4 c = let s = c .before .before .before .before .before .before in
-    let v = c .before .before .plant-factor in
+returns-4 c =
+    let at-plant-factor = c .before .before in
+    let at-if3 = at-plant-factor .before in
+    let at-if2 = at-if3 .before in
+    let at-if1 = at-if2 .before in
+    let s = at-if1 .before in
+    let v = at-plant-factor .plant-factor in
     let f : v .result ≤ 10000 = omega (arith, v .ensures, factor-small (s .args .month) (s .args .quarter)) in
     let h = up-to-small (s .pre) in
     λ q m n. factor-referred q (s .args .pn) (s .pre) (v .result) _
-    (factor-readable q (orZero (s .args .pn .0)) m n (c .before .before .before .before .before .if1 .left) (c .before .before .before .before .if2 .left) (c .before .before .before .if3 .left))
+    (factor-readable q (orZero (s .args .pn .0)) m n (at-if1 .if1 .left) (at-if2 .if2 .left) (at-if3 .if3 .left))
     (v .ensures ∙ ap₂ plantFactor m n)
     (times-is (s .args .pn .0) (pos (v .result)) _ _ _ 1000000001 10000 (back (s .args .pn .0) (omega (arith, h))) (toZ-pos w64 (omega (arith, f))) refl (omega (arith, h)) f (omega arith))
 

@@ -23,7 +23,10 @@ enum-told-3 : tie.Need-enum-told-3
 enum-told-3 c = search needs
 
 returns : tie.Need-returns
-returns c = divides-curve (c .before .before .before .before .pre) (c .before .before .reference .given .1) (c .unsigned .ensures)
+returns c =
+    let at-reference = c .before .before in
+    let entry = at-reference .before .before in
+    divides-curve (entry .pre) (at-reference .reference .given .1) (c .unsigned .ensures)
 
 returns-2 : tie.Need-returns-2
 returns-2 c = divides-last (c .before .before .pre) (c .enum-told .given .1)

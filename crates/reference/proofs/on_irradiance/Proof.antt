@@ -34,19 +34,26 @@ cast-t9 : tie.Need-cast-t9
 cast-t9 c = search needs
 
 mul-t10 : tie.Need-mul-t10
-mul-t10 c = let s = c .before .before .before .before .before .before .before in
+mul-t10 c =
+    let at-irradiance-of = c .before .before in
+    let s = at-irradiance-of .before .before .before .before .before in
     let h = s .pre .0 .a-low in
-    let g = c .before .before .irradiance-of in
+    let g = at-irradiance-of .irradiance-of in
     times-fits (s .args .a .0) (pos (g .result .0)) _ _ _ 96000000001 2000 (back (s .args .a .0) (omega (arith, h))) (toZ-pos w64 (omega (arith, g .ensures .1))) refl (omega (arith, h)) (g .ensures .1) (omega arith)
 
 returns-2 : tie.Need-returns-2
 unfolding fieldAt
-returns-2 c = let s = c .before .before .before .before .before .before .before in
+returns-2 c =
+    let at-irradiance-of = c .before .before in
+    let at-if1 = at-irradiance-of .before in
+    let at-is-irradiance = at-if1 .before in
+    let at-link-at = at-is-irradiance .before in
+    let s = at-link-at .before .before in
     let h = s .pre .0 .a-low in
-    let g = c .before .before .irradiance-of in
-    let w = c .before .before .before .before .before .link-at .ensures .0 in
+    let g = at-irradiance-of .irradiance-of in
+    let w = at-link-at .link-at .ensures .0 in
     λ q e. irradiance-referred q (s .args .a) (s .args .b) (g .result .0) _
-    (in-range isIrradiance (c .before .before .before .before .is-irradiance .ensures) (ap twos w ∙ sym e) (c .before .before .before .if1 .left))
+    (in-range isIrradiance (at-is-irradiance .is-irradiance .ensures) (ap twos w ∙ sym e) (at-if1 .if1 .left))
     (g .ensures .0 ∙ ap orZero (ap twos w ∙ sym e))
     (times-is (s .args .a .0) (pos (g .result .0)) _ _ _ 96000000001 2000 (back (s .args .a .0) (omega (arith, h))) (toZ-pos w64 (omega (arith, g .ensures .1))) refl (omega (arith, h)) (g .ensures .1) (omega arith))
 

@@ -27,9 +27,12 @@ same-length c = search needs
 
 returns : tie.Need-returns
 returns c =
-    let a = c .before .before .before .before .before .before .before .args in λ archive f.
+    let at-put-quarter = c .before .before in
+    let at-amount = at-put-quarter .before .before in
+    let entry = at-amount .before .before .before in
+    let a = entry .args in λ archive f.
     quarter-advances archive (a .cursor) (a .list .now) f (omega arith) _ (toZ w64 (ofZ w64 (getD (a .list .now) (a .cursor .place) (pos 0)))) (omega arith)
-    (c .before .before .put-quarter .ensures .0) (omega arith) (toZ-ofZ (sfits-of (c .before .before .before .before .amount .given)))
+    (at-put-quarter .put-quarter .ensures .0) (omega arith) (toZ-ofZ (sfits-of (at-amount .amount .given)))
 
 pub put-next-quarter-spec : {M : Type 1} → statement M
 put-next-quarter-spec =

@@ -19,9 +19,10 @@ same-length c = search needs
 
 returns-3 : tie.Need-returns-3
 returns-3 c =
-    let i = c .before .before .before .before in
+    let at-put-refusal = c .before .before in
+    let i = at-put-refusal .before .before in
     let a = i .before .before .before .args in
-    (writes-line (a .number) (a .p) (a .k) (i .before .if1 .left) (i .if2 .left) (c .before .before .put-refusal .ensures .0), omega arith)
+    (writes-line (a .number) (a .p) (a .k) (i .before .if1 .left) (i .if2 .left) (at-put-refusal .put-refusal .ensures .0), omega arith)
 
 pub put-refused-spec : {M : Type 1} → statement M
 put-refused-spec =

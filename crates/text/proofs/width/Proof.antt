@@ -26,8 +26,9 @@ loop-less c = omega arith
 
 loop-again : tie.Need-loop-again Inv-loop μ-loop
 loop-again c =
-    let a = c .before .before .args in let l = c .before .loop in
-    (omega (arith, l .inv .0, digits-longer (l .rest) (c .loop-test .taken) (omega (arith, c .before .before .fits .n))), omega arith)
+    let entry = c .before .before in
+    let a = entry .args in let l = c .before .loop in
+    (omega (arith, l .inv .0, digits-longer (l .rest) (c .loop-test .taken) (omega (arith, entry .fits .n))), omega arith)
 
 returns : tie.Need-returns Inv-loop μ-loop
 returns c =

@@ -4,10 +4,14 @@ use Rattle.units.proofs.unsigned.Statement.{statement}
 use Rattle.units.proofs.unsigned.Tie as tie
 
 cast-result : tie.Need-cast-result
-cast-result c = natural-cast (c .before .before .args .a .0) (c .struct-told .given .0 .1) (c .before .before .pre)
+cast-result c =
+    let entry = c .before .before in
+    natural-cast (entry .args .a .0) (c .struct-told .given .0 .1) (entry .pre)
 
 returns : tie.Need-returns
-returns c = natural-is (c .before .before .args .a .0) (c .struct-told .given .0 .1) (c .before .before .pre)
+returns c =
+    let entry = c .before .before in
+    natural-is (entry .args .a .0) (c .struct-told .given .0 .1) (entry .pre)
 
 pub unsigned-spec : {M : Type 1} → statement M
 unsigned-spec = tie.close (tie.spec cast-result returns)

@@ -33,14 +33,19 @@ loop-less : tie.Need-loop-less Inv-loop μ-loop
 loop-less c = omega arith
 
 loop-again : tie.Need-loop-again Inv-loop μ-loop
-loop-again c = let a = c .before .before .before .args in let l = c .before .before .loop in
+loop-again c =
+    let at-loop = c .before .before in
+    let entry = at-loop .before in
+    let a = entry .args in let l = at-loop .loop in
     (wrote-more (a .archive .now) (a .at) (a .bytes .now) (l .archive) (l .i) _ (omega arith) (omega arith) refl (l .inv .0), omega arith, simp length-set (l .inv .2), refl)
 
 same-length : tie.Need-same-length Inv-loop μ-loop
 same-length c = c .before .loop .inv .2
 
 returns : tie.Need-returns Inv-loop μ-loop
-returns c = c .before .loop .inv .0 ∙ wrote-all (c .before .before .args .archive .now) (c .before .before .args .at) (c .before .before .args .bytes .now) (c .before .loop .i) (omega arith)
+returns c =
+    let entry = c .before .before in
+    c .before .loop .inv .0 ∙ wrote-all (entry .args .archive .now) (entry .args .at) (entry .args .bytes .now) (c .before .loop .i) (omega arith)
 
 pub put-bytes-spec : {M : Type 1} → statement M
 put-bytes-spec =

@@ -27,8 +27,10 @@ same-length c = search needs
 
 returns : tie.Need-returns
 returns c =
-    let a = c .before .before .before .before .before .args in
-    part-back (a .list .now) (c .before .before .put-double-word .last .0) (a .i) (a .n) (c .before .before .put-double-word .ensures)
+    let at-put-double-word = c .before .before in
+    let entry = at-put-double-word .before .before .before in
+    let a = entry .args in
+    part-back (a .list .now) (at-put-double-word .put-double-word .last .0) (a .i) (a .n) (at-put-double-word .put-double-word .ensures)
 
 pub put-place-spec : {M : Type 1} → statement M
 put-place-spec =

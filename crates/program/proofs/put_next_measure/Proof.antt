@@ -1,13 +1,13 @@
--- `sandegmur::put_next_measure` meets its contract.
+-- `program::put_next_measure` meets its contract.
 use native.Mathlib.Omega.{arith}
 use borrow.Author.Needs.{sfits-of, needs}
 use lib.IntN.{ℤ}
 use Rattle.rules.specs.Output.{textOf, measureLine}
 use Rattle.text.proofs.Decimals.{writes-held}
 use Rattle.report.proofs.Laws.{given-advances, refused-advances}
-use Rattle.sandegmur.proofs.Steps.{was-given, was-refused, advances-kept}
-use Rattle.sandegmur.proofs.put_next_measure.Statement.{statement}
-use Rattle.sandegmur.proofs.put_next_measure.Tie as tie
+use Rattle.program.proofs.Steps.{was-given, was-refused, advances-kept}
+use Rattle.program.proofs.put_next_measure.Statement.{statement}
+use Rattle.program.proofs.put_next_measure.Tie as tie
 
 settle-requires : tie.Need-settle-requires
 settle-requires c κs = search needs
@@ -44,8 +44,9 @@ returns : tie.Need-returns
 returns c =
     let m = c .before .before .before in
     let told = m .before in
-    let x = told .before .before .before .count .given in
-    let s = told .before .before .before .before .before .before in
+    let at-count = told .before .before .before in
+    let s = at-count .before .before .before in
+    let x = at-count .count .given in
     let b = s .before .before .before .before in
     let a = b .args in
     let list′ = s .settle .last .1 .1 .1 .0 in
@@ -64,8 +65,9 @@ same-length-4 c = search needs
 returns-2 : tie.Need-returns-2
 returns-2 c =
     let m = c .before .before .before in
-    let x = m .before .before .before .number .given in
-    let s = m .before .before .before .before .before .before in
+    let at-number = m .before .before .before in
+    let s = at-number .before .before .before in
+    let x = at-number .number .given in
     let b = s .before .before .before .before in
     let a = b .args in
     let g = was-refused (a .archive .now) (a .cursor .p) (a .cursor .k) (a .list .now) (s .settle .last .1 .1 .1 .0) (s .settle .result) (s .settle .ensures) (b .pre .fits .size) _ (x .1) in

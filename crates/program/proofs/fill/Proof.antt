@@ -1,4 +1,4 @@
--- `sandegmur::fill` meets its contract.
+-- `program::fill` meets its contract.
 use mathlib.Core.Path.{_≡_, refl, sym, _∙_}
 use mathlib.Core.Logic.{inl, inr}
 use Prim.Native.Nat.{_+_, _-_}
@@ -8,8 +8,8 @@ use borrow.Author.Tests.{not-true, not-false}
 use lib.ListN.{length}
 use Rattle.report.specs.Cursors.{steps, Continues}
 use Rattle.report.proofs.Laws.{continues-none, continues-on, fills-from}
-use Rattle.sandegmur.proofs.fill.Statement.{statement}
-use Rattle.sandegmur.proofs.fill.Tie as tie
+use Rattle.program.proofs.fill.Statement.{statement}
+use Rattle.program.proofs.fill.Tie as tie
 
 abbrev Inv-loop : tie.InvT-loop
 Inv-loop archive list₀ out₀ next₀ list out next = Continues archive next₀ list₀ next list out × (length out ≡ length out₀) × (length list ≡ length list₀)

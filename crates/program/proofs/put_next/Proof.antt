@@ -1,9 +1,9 @@
--- `sandegmur::put_next` meets its contract.
+-- `program::put_next` meets its contract.
 use native.Mathlib.Omega.{arith}
-use Rattle.sandegmur.proofs.Steps.{not-done}
+use Rattle.program.proofs.Steps.{not-done}
 use borrow.Author.Needs.{needs}
-use Rattle.sandegmur.proofs.put_next.Statement.{statement}
-use Rattle.sandegmur.proofs.put_next.Tie as tie
+use Rattle.program.proofs.put_next.Statement.{statement}
+use Rattle.program.proofs.put_next.Tie as tie
 
 put-next-quarter-requires : tie.Need-put-next-quarter-requires
 put-next-quarter-requires c κs =

@@ -6,7 +6,9 @@ use mathlib.Core.List.{List}
 use lib.IntN.{ℤ}
 use lib.ListN.{length}
 use Rattle.report.specs.declared.Cursor.{Cursor}
-use Rattle.report.specs.Cursors.{finished, Fits}
+use Rattle.rules.specs.Output.{textOfAll}
+use Rattle.report.specs.Cursors.{rest, finished, Fits}
+use Rattle.output.specs.Handing.{Left}
 
 -- a line of the report, which isn't finished
 pub record LineDue (archive : List ℕ) (c : Cursor) (list : List ℤ) (out : List ℕ) : Type 0 where
@@ -20,3 +22,9 @@ pub record MeasureDue (archive : List ℕ) (c : Cursor) (list : List ℤ) (out :
   pub written : c .count ≤ c .place
   pub unfinished : c .done ≡ false
   pub room : c .end + 108 ≤ length out
+
+-- all lines from the cursor on, behind so many bytes handed over
+pub record RestDue (archive : List ℕ) (c : Cursor) (count : ℕ) (list : List ℤ) (out : List ℕ) : Type 0 where
+  pub fits : Fits archive c list
+  pub left : Left archive count (textOfAll (rest archive c list))
+  pub room : 108 ≤ length out
