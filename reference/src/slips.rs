@@ -432,7 +432,7 @@ impl Reader<'_> {
                 self.kind(to, kind)?;
             }
             numbers.push(to);
-            if numbers.len() > 70_000 {
+            if numbers.len() as u64 > all {
                 return Err(ENDLESS);
             }
             (holder, to) = (to, self.link(to, NEXT));
@@ -1401,7 +1401,7 @@ pub fn program(slip: Slip, input: &[u8]) -> Vec<u8> {
     let mut carry = (0, 1);
     let (mut p, mut k, mut stored) = (1, 1, 0);
     // A wrong reading can lead on for ever.
-    while p + k < 70_000 {
+    while p + k <= used + 2 {
         match carried(slip, input, p, k, &mut list, &mut result, &mut carry) {
             0 => {
                 let number = |at: usize| i64::from_le_bytes(result[at..at + 8].try_into().unwrap());
