@@ -42,13 +42,13 @@ static uint32_t file_case_a(uint8_t *archive, size_t length)
     static const int32_t measured[QUARTERS] = { 500001, 500001, 500002 };
     uint32_t number = sandegmur_fresh(archive, length);
     if (number == SANDEGMUR_NOT_REFUSED)
-        number = file(archive, length, 0, 1, 3, 2, 16, 2000000);
+        number = file(archive, length, 0, 1, 3, 2, 16, 1000000);
     if (number == SANDEGMUR_NOT_REFUSED)
         number = file(archive, length, 1, 3, 2, 2, 16, 0);
     if (number == SANDEGMUR_NOT_REFUSED)
         number = file(archive, length, 2, 4, 1, 0, 8, 800000);
     for (int i = 0; i < QUARTERS && number == SANDEGMUR_NOT_REFUSED; i++)
-        number = file(archive, length, 2, 5, 7, (uint8_t)(40 + i), 8, measured[i]);
+        number = file(archive, length, 2, 5, 7, 40, 8, measured[i]);
     return number;
 }
 
