@@ -493,8 +493,7 @@ impl Reader<'_> {
             Slip::NominalHigh => i128::MAX,
             _ => *NOMINAL.end(),
         };
-        let needed =
-            self.slip != Slip::NominalSpitz || matches!(pairing, Pairing::WindSpitz | Pairing::SolarPauschal);
+        let needed = self.slip != Slip::NominalSpitz || matches!(pairing, Pairing::WindSpitz | Pairing::SolarPauschal);
         test((low..=high).contains(&nominal) || !needed, 6)?;
         Ok((pairing, nominal))
     }
@@ -892,9 +891,8 @@ fn settle(
         let curve_sum = |ones: &[&[u8]]| match slip {
             Slip::SumThenRound => {
                 let parts = ones.iter().map(|one| slipped_power(slip, &curve, weather(one)).0);
-                let (over, under) = parts.fold((0, 1), |sum: (i128, i128), part| {
-                    (sum.0 * part.1 + part.0 * sum.1, sum.1 * part.1)
-                });
+                let (over, under) =
+                    parts.fold((0, 1), |sum: (i128, i128), part| (sum.0 * part.1 + part.0 * sum.1, sum.1 * part.1));
                 over.div_euclid(under)
             }
             _ => ones.iter().map(|one| power_at(weather(one))).sum(),
@@ -1340,9 +1338,7 @@ pub fn show_place(slip: Slip, archive: &[u8], number: u64) -> u64 {
         _ => used,
     };
     let hidden = (slip == Slip::HeadHidden && number == 0)
-        || (slip == Slip::KnownKinds
-            && (1..end).contains(&number)
-            && !(1..=5).contains(&record(archive, number)[0]));
+        || (slip == Slip::KnownKinds && (1..end).contains(&number) && !(1..=5).contains(&record(archive, number)[0]));
     if number < end && !hidden {
         number * RECORD as u64
     } else {

@@ -64,7 +64,9 @@ fn number<T: std::str::FromStr>(text: &str) -> Result<T, Fault> {
 }
 
 fn hex(text: &str) -> Result<Vec<u8>, Fault> {
-    text.split_whitespace().map(|byte| u8::from_str_radix(byte, 16).map_err(|_| format!("not a byte: {byte}"))).collect()
+    text.split_whitespace()
+        .map(|byte| u8::from_str_radix(byte, 16).map_err(|_| format!("not a byte: {byte}")))
+        .collect()
 }
 
 /// What stands between two texts.
@@ -386,7 +388,9 @@ fn in_words(outcome: &Outcome) -> String {
                 list.chunks_exact(8).take(results[0] as usize).map(|place| grouped(value(place))).collect();
             format!("0: {}; total {}; links {}", amounts.join(", "), grouped(results[1]), grouped(results[2]))
         }
-        Outcome::Settled { number, .. } | Outcome::Changed { number, .. } | Outcome::Number(number) => number.to_string(),
+        Outcome::Settled { number, .. } | Outcome::Changed { number, .. } | Outcome::Number(number) => {
+            number.to_string()
+        }
         Outcome::Shown(place) => format!("place {place}"),
         Outcome::Lines(lines) => lines.trim_end().replace('\n', " / "),
     }
@@ -441,18 +445,25 @@ impl Pages {
             if !line.starts_with('|') {
                 columns.clear();
                 let dump = between(line, "Archive `", "`:");
-                let printed = line.find("The program prints for `").and_then(|start| {
-                    between(&line[start..], "The program prints for `", "`:")
-                });
+                let printed = line
+                    .find("The program prints for `")
+                    .and_then(|start| between(&line[start..], "The program prints for `", "`:"));
                 if let Some(name) = dump.or(printed) {
-                    let block: Vec<&str> =
-                        lines[at + 1..].iter().take_while(|line| line.starts_with("    ")).map(|line| line.trim()).collect();
+                    let block: Vec<&str> = lines[at + 1..]
+                        .iter()
+                        .take_while(|line| line.starts_with("    "))
+                        .map(|line| line.trim())
+                        .collect();
                     at += 1 + block.len();
                     if dump.is_some() {
                         let bytes = dumped(&block).map_err(|fault| format!("{place}: {fault}"))?;
                         self.dumps.push((place, name.to_string(), bytes));
                     } else {
-                        self.printed.push((place, name.to_string(), block.iter().map(|line| format!("{line}\n")).collect()));
+                        self.printed.push((
+                            place,
+                            name.to_string(),
+                            block.iter().map(|line| format!("{line}\n")).collect(),
+                        ));
                     }
                 }
                 continue;
