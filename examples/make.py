@@ -189,6 +189,20 @@ def d():
     return a.bytes
 
 
+def f():
+    """Figure f: wind, Spitz; A is four times B, so that the amounts are the curve's powers at speeds 35, 40, 29 and 41."""
+    a = Archive()
+    plant = a.plant(WIND, SPITZ, 1_000_000)
+    a.point(plant, 30, 0)
+    a.point(plant, 40, 100_001)
+    measure = a.measure(plant, NEGATIVE, TOLERATED)
+    for _ in range(4):
+        a.before(measure, FREE, 400_004, 40)
+    for of_day, speed in [(40, 35), (41, 40), (42, 29), (43, 41)]:
+        a.quarter(measure, 7, of_day, 0, weather=speed)
+    return a.bytes
+
+
 def g():
     """Figure g: solar, Spitz; three before-quarters."""
     a = Archive()
@@ -348,7 +362,7 @@ def shared():
 def main():
     directory = pathlib.Path(sys.argv[1])
     directory.mkdir(parents=True, exist_ok=True)
-    for make in (a, b, d, g, h, k, refused, wind, solar, other, positive, pauschal, plants, factors, day, month, shared):
+    for make in (a, b, d, f, g, h, k, refused, wind, solar, other, positive, pauschal, plants, factors, day, month, shared):
         (directory / (make.__name__ + ".archive")).write_bytes(make())
 
 
