@@ -221,6 +221,8 @@ slips! {
         WeatherOtherSpitz Settle "F 6" "weather of quarters tested in other Spitz"
         MonthMore Settle "F 6" "month above 12 taken for winter"
         MonthZero Settle "F 6" "month 0 taken for winter"
+        MonthEdge Settle "F 3" "month 12 refused"
+        TimeEdge Settle "F 3" "quarter of the day 95 refused"
         TimeAtZero Settle "F 6" "month not tested where the factor is 0"
         FirstQuarterOnly Settle "F 6" "fields of the first quarter alone tested"
         LimitTaken Settle "R 2" "limit always taken in execution 1"
@@ -291,6 +293,7 @@ slips! {
         PlantLinksUntested Append "F 9" "bytes 8-15 not tested in kind 1"
         MeasureLinksUntested Append "F 9" "bytes 8-15 not tested in kind 3"
         SecondUntested Append "F 9" "bytes 12-15 not tested in kinds 1 and 3"
+        MoreTested Append "F 9" "bytes 16-19 tested too in kinds 1 and 3"
         OwnerFirst Append "F 9" "15 before 14"
         OwnerUnused Append "F 9" "owner behind U accepted if it fits"
         OwnerKind Append "F 9" "a quarter filed under a plant"
@@ -976,11 +979,13 @@ fn settle(
         let months = match slip {
             Slip::MonthMore => 1..=255,
             Slip::MonthZero => 0..=12,
+            Slip::MonthEdge => 1..=11,
             Slip::TimeAtZero if slipped_factor(slip, one[1], one[2]) == 0 => 0..=255,
             _ => 1..=12,
         };
         test(!(day || is(Slip::MonthAlways)) || months.contains(&one[1]), 9)?;
-        test(!(day || is(Slip::MonthAlways)) || one[2] <= 95 || is(Slip::TimeUntested), 9)?;
+        let latest = if is(Slip::TimeEdge) { 94 } else { 95 };
+        test(!(day || is(Slip::MonthAlways)) || one[2] <= latest || is(Slip::TimeUntested), 9)?;
     }
     eight?;
     twelve?;
@@ -1167,6 +1172,7 @@ fn append_place(slip: Slip, archive: &[u8], owner: u64, new: &[u8]) -> Result<(u
         PLANT if is(Slip::PlantLinksUntested) => 8,
         MEASURE if is(Slip::MeasureLinksUntested) => 8,
         PLANT | MEASURE if is(Slip::SecondUntested) => 12,
+        PLANT | MEASURE if is(Slip::MoreTested) => 20,
         PLANT | MEASURE => 16,
         _ if is(Slip::LinksInAll) => 16,
         _ => 8,
