@@ -3,7 +3,8 @@
 # make lib      libsandegmur, static and shared, its header and pkg-config file in target/lib, proved first
 # make install  program, libraries, header, pages and man page below PREFIX (/usr/local), DESTDIR in front of it; builds what isn't built
 # make compare  200,000 generated calls against the outside program (CALLS=, SEED=)
-# make check-pages  generated cases against a reader made from docs/FORMAT.md and docs/RULES.md alone (ARCHIVES=, SEED=)
+# make check-pages  the examples of docs/FORMAT.md and docs/RULES.md, and every wrong reading told by them; then generated cases against a
+#                   reader made from the two pages alone (ARCHIVES=, SEED=)
 # make cases    the outside program's calls and answers for crates/cases, written anew
 # make bench    times beside the outside program's, as ratios
 .PHONY: run test program lib install printed check-reference check-c check-install check-program check-cases cases compare check-pages bench
@@ -114,7 +115,8 @@ compare: lib
 	$(CARGO) run -q --release --features compare --bin compare -- $(SEED) $(CALLS)
 
 check-pages: lib program
-	$(CARGO) build -q --release --features compare --bin ask --bin reader
+	$(CARGO) build -q --release --features compare --bin ask --bin reader --bin pages
+	target/reference/release/pages $(CURDIR) $(PROGRAM)
 	$(ASK) $(PROGRAM)
 	target/reference/release/reader < $(PAGES)/cases > $(PAGES)/read && cmp $(PAGES)/lines $(PAGES)/read || { $(ASK); exit 1; }
 	@echo "no difference between the library and the reader of the pages"

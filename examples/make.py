@@ -158,10 +158,211 @@ def refused():
     return a.bytes
 
 
+def a():
+    """Case a of document 01: another plant, Pauschal, negative, tolerated."""
+    a = Archive()
+    measure = a.measure(a.plant(OTHER, PAUSCHAL, 1_000_000), NEGATIVE, TOLERATED)
+    a.before(measure, FREE, 800_000)
+    for measured in (500_001, 500_001, 500_002):
+        a.quarter(measure, 7, 40, measured)
+    return a.bytes
+
+
+def b():
+    """Figure b: wind, Spitz; a curve of two points, four before-quarters."""
+    a = Archive()
+    plant = a.plant(WIND, SPITZ, 2_000_000)
+    a.point(plant, 0, 0)
+    a.point(plant, 200, 2_000_000)
+    measure = a.measure(plant, NEGATIVE, TOLERATED)
+    for _ in range(4):
+        a.before(measure, FREE, 900_000, 100)
+    a.quarter(measure, 7, 40, 350_000, weather=150)
+    return a.bytes
+
+
+def d():
+    """Figure d with a plan of 1 MW: another plant, Spitz, requested."""
+    a = Archive()
+    measure = a.measure(a.plant(OTHER, SPITZ, 1_000_000), NEGATIVE, REQUESTED)
+    a.quarter(measure, 7, 40, 400_000, limit=600_000, planned=1_000_000)
+    return a.bytes
+
+
+def f():
+    """Figure f: wind, Spitz; A is four times B, so that the amounts are the curve's powers at speeds 35, 40, 29 and 41."""
+    a = Archive()
+    plant = a.plant(WIND, SPITZ, 1_000_000)
+    a.point(plant, 30, 0)
+    a.point(plant, 40, 100_001)
+    measure = a.measure(plant, NEGATIVE, TOLERATED)
+    for _ in range(4):
+        a.before(measure, FREE, 400_004, 40)
+    for of_day, speed in [(40, 35), (41, 40), (42, 29), (43, 41)]:
+        a.quarter(measure, 7, of_day, 0, weather=speed)
+    return a.bytes
+
+
+def g():
+    """Figure g: solar, Spitz; three before-quarters."""
+    a = Archive()
+    measure = a.measure(a.plant(SOLAR, SPITZ, 1_000_000), NEGATIVE, TOLERATED)
+    for _ in range(3):
+        a.before(measure, FREE, 300_000, 500)
+    a.quarter(measure, 7, 40, 80_000, weather=800)
+    return a.bytes
+
+
+def h():
+    """Figure h: solar, Pauschal; the quarters before and after 9:00 in July."""
+    a = Archive()
+    measure = a.measure(a.plant(SOLAR, PAUSCHAL, 1_000_000), NEGATIVE, TOLERATED)
+    a.quarter(measure, 7, 35, 0)
+    a.quarter(measure, 7, 36, 0)
+    return a.bytes
+
+
+def k():
+    """Figure k: wind, Pauschal; less than 10 % of Pn before the measure, consumption during it."""
+    a = Archive()
+    measure = a.measure(a.plant(WIND, PAUSCHAL, 2_000_000), NEGATIVE, TOLERATED)
+    a.before(measure, FREE, 100_000)
+    a.quarter(measure, 7, 40, -20_000)
+    return a.bytes
+
+
+def pauschal():
+    """Pauschal in each technology, sums that do not come out even; a second measure of the third plant."""
+    a = Archive()
+    wind = a.measure(a.plant(WIND, PAUSCHAL, 2_000_000), NEGATIVE, REQUESTED)
+    for mark, measured in [(RESTRICTED, 900_000), (FREE, 1_234_567), (FREE, 5)]:
+        a.before(wind, mark, measured)
+    for of_day, measured, limit in [(0, 400_001, 400_000), (1, 399_998, 400_000), (2, 400_003, 399_000)]:
+        a.quarter(wind, 9, of_day, measured, limit)
+    solar = a.measure(a.plant(SOLAR, PAUSCHAL, 123_457), NEGATIVE, FIXED)
+    for of_day, measured in [(35, 1), (36, 20_003), (59, 20_000), (60, -3)]:
+        a.quarter(solar, 6, of_day, measured, limit=50_000)
+    other = a.plant(OTHER, PAUSCHAL, 500_000)
+    raised = a.measure(other, POSITIVE, FIXED)
+    a.before(raised, FREE, 100_003)
+    for of_day, measured in [(80, 200_000), (81, 200_001), (82, 99_000), (83, 200_002)]:
+        a.quarter(raised, 12, of_day, measured, limit=150_000)
+    lowered = a.measure(other, NEGATIVE, REQUESTED)
+    a.before(lowered, FREE, -50_001)
+    for of_day, measured, limit in [(90, -200_000, -180_003), (91, -190_000, -180_004)]:
+        a.quarter(lowered, 12, of_day, measured, limit)
+    return a.bytes
+
+
+def factors():
+    """A 1 MW solar plant, Pauschal: both sides of every edge of the factor table, then quarter 36 of every month."""
+    a = Archive()
+    plant = a.plant(SOLAR, PAUSCHAL, 1_000_000)
+    measure = a.measure(plant, NEGATIVE, TOLERATED)
+    for month, edges in [(3, (24, 36, 60, 76)), (11, (36, 40, 56, 67))]:
+        for edge in edges:
+            a.quarter(measure, month, edge - 1, 0)
+            a.quarter(measure, month, edge, 0)
+    measure = a.measure(plant, NEGATIVE, TOLERATED)
+    for month in range(1, 13):
+        a.quarter(measure, month, 36, 0)
+    return a.bytes
+
+
+def plants():
+    """Seven plants: refusals that the program passes over, a plant without measures, a kind that ends it."""
+    a = Archive()
+    curve = a.plant(WIND, SPITZ, 2_000_000)
+    a.point(curve, 30, 0)
+    a.point(curve, 30, 5)
+    a.measure(curve, NEGATIVE, TOLERATED)
+    a.measure(curve, POSITIVE, TOLERATED)
+    a.plant(OTHER, PAUSCHAL, 1_000_000)  # no measure
+    wind = a.plant(WIND, SPITZ, 1_000_009)
+    for speed, power in [(30, 100_001), (40, 0), (50, 900_000), (53, 1_000_000)]:
+        a.point(wind, speed, power)
+    few = a.measure(wind, NEGATIVE, TOLERATED)
+    for measured in (400_000, 100_000, 100_001, 500_000):  # the second is below 10 %
+        a.before(few, FREE, measured, 50)
+    calm = a.measure(wind, NEGATIVE, TOLERATED)
+    for speed in (40, 29, 40, 54):
+        a.before(calm, FREE, 400_000, speed)
+    a.quarter(calm, 0, 0, 0, weather=53)
+    five = a.measure(wind, NEGATIVE, FIXED)
+    for mark, measured, speed in [
+        (FREE, 700_003, 51),
+        (FREE, 99_999, 1_001),  # below 10 %: its speed is not read
+        (RESTRICTED, 800_000, 52),
+        (FREE, 650_001, 52),
+        (FREE, 100_001, 35),  # usable: 1,000,010 is not below 1,000,009
+        (FREE, 720_000, 53),
+        (FREE, 710_000, 51),  # a fifth
+    ]:
+        a.before(five, mark, measured, speed)
+    for measured, speed in [(200_001, 47), (-100_000, 54), (200_003, 30), (200_002, 52), (0, 35), (150_000, 53)]:
+        a.quarter(five, 0, 0, measured, limit=900_000, weather=speed)
+    unknown = a.plant(4, PAUSCHAL, 1_000_000)
+    a.measure(unknown, NEGATIVE, TOLERATED)
+    a.measure(unknown, NEGATIVE, TOLERATED)
+    solar = a.plant(SOLAR, SPITZ, 100_000)
+    dark = a.measure(solar, NEGATIVE, TOLERATED)
+    a.before(dark, FREE, 0, 0)
+    a.before(dark, RESTRICTED, 50_000, 600)
+    a.quarter(dark, 0, 0, 0)
+    a.measure(solar, POSITIVE, TOLERATED)
+    bright = a.measure(solar, NEGATIVE, REQUESTED)
+    for mark, measured, irradiance in [(FREE, 30_001, 301), (FREE, 9_999, 0), (RESTRICTED, 5, 5), (FREE, -7, 11), (FREE, 40_000, 395)]:
+        a.before(bright, mark, measured, irradiance)
+    for measured, irradiance in [(20_000, 402), (20_004, 2_000), (15_000, 0), (0, 333)]:
+        a.quarter(bright, 0, 0, measured, limit=19_000, weather=irradiance)
+    engine = a.plant(OTHER, SPITZ, 1_000_000)
+    raised = a.measure(engine, POSITIVE, REQUESTED)
+    for measured, limit, planned in [(600_001, 600_000, 300_003), (600_000, 600_003, 300_001), (-5, 600_000, -1_000_000_000), (7, 8, 9)]:
+        a.quarter(raised, 0, 0, measured, limit, planned=planned)
+    wrong = a.measure(engine, NEGATIVE, TOLERATED)
+    first = a.quarter(wrong, 0, 0, 0)
+    a.measure(engine, NEGATIVE, TOLERATED)
+    last = a.measure(a.plant(OTHER, SPITZ, 1_000_000), NEGATIVE, TOLERATED)
+    a.quarter(last, 0, 0, 0, planned=4)
+    a.set_link(first, NEXT, last)  # a quarter that leads to a measure
+    return a.bytes
+
+
+def day():
+    """A solar plant, Spitz, with 97 before-quarters, one more than a day has."""
+    a = Archive()
+    measure = a.measure(a.plant(SOLAR, SPITZ, 1_000_000), NEGATIVE, TOLERATED)
+    for n in range(97):
+        a.before(measure, FREE, 1_000 * n + n * n, 5 * n)
+    a.quarter(measure, 6, 48, 0, weather=701)
+    return a.bytes
+
+
+def month():
+    """Another plant, Spitz, with 2,977 quarters, one more than a month of 31 days has."""
+    a = bytearray(struct.pack("<4sII20x", b"AARB", 2980, 1))
+    a += struct.pack("<4B5i8x", PLANT, OTHER, SPITZ, 0, 0, 0, 2, 1_000_000, 0)
+    a += struct.pack("<4B5i8x", MEASURE, NEGATIVE, TOLERATED, 0, 0, 0, 3, 0, 0)
+    for n in range(3, 2980):
+        a += struct.pack("<4B5i8x", QUARTER, 0, 0, 0, (n + 1) % 2980, 1_000, 0, 0, 3_000)
+    return a
+
+
+def shared():
+    """Another plant, Spitz, with 46 measures that share 46 quarters: more lines than an archive of the program has records."""
+    a = Archive()
+    plant = a.plant(OTHER, SPITZ, 1_000_000)
+    measures = [a.measure(plant, NEGATIVE, TOLERATED) for _ in range(46)]
+    quarters = [a.quarter(measures[0], 0, 0, n, planned=3 * n) for n in range(46)]
+    for measure in measures:
+        a.set_link(measure, FIRST[QUARTER], quarters[0])
+    return a.bytes
+
+
 def main():
     directory = pathlib.Path(sys.argv[1])
     directory.mkdir(parents=True, exist_ok=True)
-    for make in (wind, solar, other, positive, refused):
+    for make in (a, b, d, f, g, h, k, refused, wind, solar, other, positive, pauschal, plants, factors, day, month, shared):
         (directory / (make.__name__ + ".archive")).write_bytes(make())
 
 

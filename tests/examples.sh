@@ -1,11 +1,13 @@
 #!/usr/bin/env bash
-# The example archives: the program's output on each, and that examples/make.py writes the same bytes. Argument: the program.
+# The example archives: the program's output on each, that examples/make.py writes the same bytes, and that case a is the printed example.
+# Argument: the program.
 set -euo pipefail
 program=$1
 examples=$(cd "$(dirname "$0")/../examples" && pwd)
 made=$(mktemp -d)
 trap 'rm -rf "$made"' EXIT
 python3 "$examples/make.py" "$made"
+cmp "$examples/a.archive" "$examples/../crates/sandegmur/stdin"
 count=0
 for archive in "$examples"/*.archive; do
   cmp "$archive" "$made/$(basename "$archive")"

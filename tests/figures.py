@@ -50,11 +50,11 @@ def planned(direction, measured, limit, plan):
 
 
 FIGURES = [
-    ("a", pauschal(800000, (500001, 500001, 500002)), [74999, 75000, 75000]),
+    ("a", pauschal(800000, (500001, 500001, 500002), 1000000), [74999, 75000, 75000]),
     ("b", wind([(900000, 100)] * 4, [350000], 150), [250000]),
     ("c", wind([(1200000, 100)] * 4, [0], 200), [500000]),
-    # d: L is 600,000, so of a plan of 800,000 a quarter of 200,000 is lost
-    ("d", planned(NEGATIVE, 400000, 600000, 800000), [50000]),
+    # d: L is 600,000, so of a plan of 1,000,000 a quarter of 400,000 is lost
+    ("d", planned(NEGATIVE, 400000, 600000, 1000000), [100000]),
     ("e", planned(POSITIVE, 700000, 600000, 500000), [-25000]),
     ("g", archive(SOLAR, SPITZ, 2000000, NEGATIVE, TOLERATED, [(7, 40, (80000, 0, 800))], [(300000, 500)] * 3), [100000]),
     ("h", factor(7, (35, 36)), [61400, 154725]),

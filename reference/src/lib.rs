@@ -17,6 +17,7 @@ pub mod generate;
 pub mod program;
 pub mod rng;
 pub mod settle;
+pub mod sha256;
 pub mod slips;
 
 #[cfg(test)]

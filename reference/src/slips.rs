@@ -1,8 +1,9 @@
 //! Wrong readings of document 01, one at a time. A generated call reaches a situation if the wrong reading gives
-//! another outcome there than the right one. With `Slip::None` every call gives what the plain modules give.
+//! another outcome there than the right one; an example on the pages shows it in the same way. With `Slip::None` every
+//! call gives what the plain modules give.
 
 use crate::archive::*;
-use crate::settle::{curve_power, factor, Pairing, CURVE_POWER, IRRADIANCE, NOMINAL, POWER, SPEED};
+use crate::settle::{curve_power, Pairing, CURVE_POWER, IRRADIANCE, NOMINAL, POWER, SPEED};
 
 /// Which call a slip belongs to.
 #[derive(Clone, Copy, Debug, PartialEq, Eq)]
@@ -19,90 +20,363 @@ pub enum Of {
 pub const ENDLESS: Refusal = 999;
 
 macro_rules! slips {
-    ($($name:ident $of:ident $point:literal $what:literal)*) => {
+    (generated { $($name:ident $of:ident $point:literal $what:literal)* }
+     pages { $($further:ident $call:ident $section:literal $does:literal)* }) => {
         #[derive(Clone, Copy, Debug, PartialEq, Eq)]
-        pub enum Slip { None, $($name),* }
+        pub enum Slip { None, $($name,)* $($further),* }
 
         /// Each slip with its call, the point it is about ("!" where a decision is marked so) and what it does.
+        /// Generated calls have to reach all of them.
         pub const SLIPS: &[(Slip, Of, &str, &str)] = &[$((Slip::$name, Of::$of, $point, $what)),*];
+
+        /// Further ones, with a section of docs/FORMAT.md (F) or docs/RULES.md (R). Examples on these pages have to show
+        /// them as well as the others.
+        pub const FURTHER: &[(Slip, Of, &str, &str)] = &[$((Slip::$further, Of::$call, $section, $does)),*];
     };
 }
 
 slips! {
-    OwnerNumber Settle "6!" "a link need only exceed the owner of its chain"
-    EarlyMissing Settle "12!" "a place of U or more is 4 or 5 at once"
-    NarrowPlaces Settle "13!" "places cut to 32 bits"
-    PlantFirst Settle "17!" "6 tested on reaching the plant"
-    WalksFirst Settle "19!" "all chains walked before any value is tested"
-    StopAtLimit Settle "20!" "walk ends at the 97th before-quarter or 2,977th quarter"
-    LinksThenKinds Settle "21!" "all links of a chain for 2, then all kinds for 3"
-    PointByPoint Settle "24!" "9 and 10 point by point"
-    CountFirst Settle "24!" "fewer than two points is 10 before 9"
-    TouchedPowers Settle "25!" "curve power tested only where a speed touches it"
-    UsedOnly Settle "30!" "measured power tested in the four used ones only"
-    AllMarked Settle "30!" "measured power tested in marked ones behind the fourth too"
-    AllBefore Settle "30!" "measured power tested in unmarked ones too"
-    WeatherOfMarked Settle "31!" "speed tested in marked ones below 10 % too"
-    WeatherBehind Settle "31!" "speed of a usable fifth tested"
-    FewFirst Settle "31!" "too few usable ones is 11 before their speeds' 9"
-    MonthAlways Settle "40!" "month and quarter of the day tested in every pairing"
-    LimitAlways Settle "40!" "limit tested in execution 2"
-    LimitBothSides Settle "40!" "limit tested in execution 3"
-    WeatherAlways Settle "40!" "weather tested in every pairing"
-    PlanAlways Settle "40!" "plan tested in every pairing"
-    TimeUntested Settle "40!" "quarter of the day over 95 taken for factor 0"
-    ResultFirst Settle "51!" "length of the result part tested first"
-    ResultLonger Settle "51!" "longer result part accepted"
-    UnusedRecords Settle "7" "a link to an unused record accepted"
-    ZeroLink Settle "5" "a zero link is 2"
-    EarlyZero Settle "14" "k = 0 is 5 before the plants' walk"
-    NextRead Settle "16" "next link of plant p and measure k tested"
-    ChainsAlways Settle "23" "curve and before-quarters walked in every pairing"
-    RoundDrop Settle "27" "a falling line's drop rounded down"
-    MarksOfUsed Settle "29" "byte 1 untested behind the last used one"
-    NoneIsEight Settle "36" "no before-quarter is 8"
-    RaisedA Settle "37" "A below 0 raised to 0"
-    TenPercentAbove Settle "39" "10 % test fails at equality"
-    ListFirst Settle "44" "short list is 13 before the quarters' 9"
-    SignedRounding Settle "45" "positive direction rounded down with its sign"
-    UsedLinks Settle "47" "only used before-quarters counted as links"
-    ZeroedResult Settle "48" "result part zeroed on a refusal"
-    RaggedPlace Settle "52" "bytes past the last whole place taken for one"
-    RoundEach Settle "false reading" "each quarter rounded by itself"
-    DivideFirst Settle "false reading" "A divided by B before multiplying"
-    TenPercentPauschal Settle "false reading" "10 % test in Pauschal"
-    NegativeZero Settle "false reading" "negative measured power taken for zero"
-    WinterToFive Settle "false reading" "winter afternoon ends at 17:00"
-    NoCap Settle "cap" "wind Spitz not capped"
-    SolarCap Settle "D15" "solar Spitz capped at Pn"
-    SolarTenPercent Settle "D14" "10 % test in solar Spitz"
-    FloorT Settle "D35" "T below 0 raised to 0"
-    BothSidesRequested Settle "D24" "execution 3 treated as 1"
-    SumWraps Settle "F3" "sum of numerators kept in 64 bits"
-    ListWritten Settle "F9" "list written before the result part is tested"
-    NominalSpitz Settle "Pn" "Pn tested only where T uses it"
-    FullBeforeWalk Append "55!" "16 before 2 and 3"
-    FullBeforeOwner Append "55!" "16 before 15"
-    ReachedOwner Append "56!" "owner must be on a chain"
-    OtherChain Append "56!" "the owner's other chain walked too"
-    OwnChain Append "56!" "the owner's own next link walked too"
-    NarrowOwner Append "13!" "owner cut to 32 bits"
-    HeadByText Append "58" "any record with the text AARB taken for a head"
-    LinksInAll Append "60" "bytes 8-15 must be 0 in every kind"
-    KeptBytes Append "61" "record U keeps bytes 24-31"
-    FirstLink Append "57" "the owner's first link always set"
-    NeededOnly Audit "66!" "curve link tested in wind Spitz only"
-    KindsFirst Audit "68!" "all kinds before all links"
-    TwiceAtOnce Audit "68!" "17 as soon as a record is named twice"
-    UnusedAudited Audit "64" "unused records must have known kinds"
-    OrphansIgnored Audit "69" "links of orphans not counted"
-    NarrowNumber Show "13!" "number cut to 32 bits"
-    UnusedShown Show "63" "records behind U shown"
-    TextNeeded Fresh "54" "fresh needs an archive"
-    LowerGoesOn Program "75!" "2 or 3 below a measure leads on to the next measure"
-    FixedStore Program "81!" "no more Q lines than 2,048 records"
-    SixSkips Program "79" "6 leads on to the next plant"
-    LongCut Program "71" "longer input cut to 65,536 bytes"
+    generated {
+        OwnerNumber Settle "6!" "a link need only exceed the owner of its chain"
+        EarlyMissing Settle "12!" "a place of U or more is 4 or 5 at once"
+        NarrowPlaces Settle "13!" "places cut to 32 bits"
+        PlantFirst Settle "17!" "6 tested on reaching the plant"
+        WalksFirst Settle "19!" "all chains walked before any value is tested"
+        StopAtLimit Settle "20!" "walk ends at the 97th before-quarter or 2,977th quarter"
+        LinksThenKinds Settle "21!" "all links of a chain for 2, then all kinds for 3"
+        PointByPoint Settle "24!" "9 and 10 point by point"
+        CountFirst Settle "24!" "fewer than two points is 10 before 9"
+        TouchedPowers Settle "25!" "curve power tested only where a speed touches it"
+        UsedOnly Settle "30!" "measured power tested in the four used ones only"
+        AllMarked Settle "30!" "measured power tested in marked ones behind the fourth too"
+        AllBefore Settle "30!" "measured power tested in unmarked ones too"
+        WeatherOfMarked Settle "31!" "speed tested in marked ones below 10 % too"
+        WeatherBehind Settle "31!" "speed of a usable fifth tested"
+        FewFirst Settle "31!" "too few usable ones is 11 before their speeds' 9"
+        MonthAlways Settle "40!" "month and quarter of the day tested in every pairing"
+        LimitAlways Settle "40!" "limit tested in execution 2"
+        LimitBothSides Settle "40!" "limit tested in execution 3"
+        WeatherAlways Settle "40!" "weather tested in every pairing"
+        PlanAlways Settle "40!" "plan tested in every pairing"
+        TimeUntested Settle "40!" "quarter of the day over 95 taken for factor 0"
+        ResultFirst Settle "51!" "length of the result part tested first"
+        ResultLonger Settle "51!" "longer result part accepted"
+        UnusedRecords Settle "7" "a link to an unused record accepted"
+        ZeroLink Settle "5" "a zero link is 2"
+        EarlyZero Settle "14" "k = 0 is 5 before the plants' walk"
+        NextRead Settle "16" "next link of plant p and measure k tested"
+        ChainsAlways Settle "23" "curve and before-quarters walked in every pairing"
+        RoundDrop Settle "27" "a falling line's drop rounded down"
+        MarksOfUsed Settle "29" "byte 1 untested behind the last used one"
+        NoneIsEight Settle "36" "no before-quarter is 8"
+        RaisedA Settle "37" "A below 0 raised to 0"
+        TenPercentAbove Settle "39" "10 % test fails at equality"
+        ListFirst Settle "44" "short list is 13 before the quarters' 9"
+        SignedRounding Settle "45" "positive direction rounded down with its sign"
+        UsedLinks Settle "47" "only used before-quarters counted as links"
+        ZeroedResult Settle "48" "result part zeroed on a refusal"
+        RaggedPlace Settle "52" "bytes past the last whole place taken for one"
+        RoundEach Settle "false reading" "each quarter rounded by itself"
+        DivideFirst Settle "false reading" "A divided by B before multiplying"
+        TenPercentPauschal Settle "false reading" "10 % test in Pauschal"
+        NegativeZero Settle "false reading" "negative measured power taken for zero"
+        WinterToFive Settle "false reading" "winter afternoon ends at 17:00"
+        NoCap Settle "cap" "wind Spitz not capped"
+        SolarCap Settle "D15" "solar Spitz capped at Pn"
+        SolarTenPercent Settle "D14" "10 % test in solar Spitz"
+        FloorT Settle "D35" "T below 0 raised to 0"
+        BothSidesRequested Settle "D24" "execution 3 treated as 1"
+        SumWraps Settle "F3" "sum of numerators kept in 64 bits"
+        ListWritten Settle "F9" "list written before the result part is tested"
+        NominalSpitz Settle "Pn" "Pn tested only where T uses it"
+        FullBeforeWalk Append "55!" "16 before 2 and 3"
+        FullBeforeOwner Append "55!" "16 before 15"
+        ReachedOwner Append "56!" "owner must be on a chain"
+        OtherChain Append "56!" "the owner's other chain walked too"
+        OwnChain Append "56!" "the owner's own next link walked too"
+        NarrowOwner Append "13!" "owner cut to 32 bits"
+        HeadByText Append "58" "any record with the text AARB taken for a head"
+        LinksInAll Append "60" "bytes 8-15 must be 0 in every kind"
+        KeptBytes Append "61" "record U keeps bytes 24-31"
+        FirstLink Append "57" "the owner's first link always set"
+        NeededOnly Audit "66!" "curve link tested in wind Spitz only"
+        KindsFirst Audit "68!" "all kinds before all links"
+        TwiceAtOnce Audit "68!" "17 as soon as a record is named twice"
+        UnusedAudited Audit "64" "unused records must have known kinds"
+        OrphansIgnored Audit "69" "links of orphans not counted"
+        NarrowNumber Show "13!" "number cut to 32 bits"
+        UnusedShown Show "63" "records behind U shown"
+        TextNeeded Fresh "54" "fresh needs an archive"
+        LowerGoesOn Program "75!" "2 or 3 below a measure leads on to the next measure"
+        FixedStore Program "81!" "no more Q lines than 2,048 records"
+        SixSkips Program "79" "6 leads on to the next plant"
+        LongCut Program "71" "longer input cut to 65,536 bytes"
+    }
+    pages {
+        RaggedLength Settle "F 2" "bytes past the last whole record left out of account"
+        RecordsMore Settle "F 2" "65,536 records accepted"
+        RecordsLess Settle "F 2" "65,535 records refused"
+        TextUntested Settle "F 2" "text not tested"
+        TextStart Settle "F 2" "first three letters of the text tested"
+        UsedNone Settle "F 2" "U = 0 accepted"
+        UsedMore Settle "F 2" "U beyond the records taken for all of them"
+        HeadLink Settle "F 2" "a bad link to the first plant is 1"
+        BigEndian Settle "F 1" "fields read with the highest byte first"
+        UnsignedFields Settle "F 1" "fields other than links read as unsigned"
+        HolderItself Settle "F 4" "a link to its own holder accepted"
+        LinkAtUsed Settle "F 4" "a link to record U accepted if there is one"
+        FirstLinkFree Settle "F 4" "a chain's first link not tested against its holder"
+        KindBeforeLink Settle "F 4" "3 before 2 at each link"
+        KindUntested Settle "F 4" "kinds not tested on the way"
+        PlacesFromZero Settle "F 6" "p and k counted from 0"
+        PlantsBefore Settle "F 6" "fields of plants before plant p tested"
+        MeasuresBefore Settle "F 6" "fields of measures before measure k tested"
+        TechnologyMore Settle "F 6" "technology other than 1 and 2 taken for other"
+        VariantMore Settle "F 6" "variant other than 1 taken for Pauschal"
+        NominalLowEdge Settle "F 6" "Pn of 100,000 refused"
+        NominalHighEdge Settle "F 6" "Pn of 1,000,000,000 refused"
+        NominalLow Settle "F 6" "Pn below 100,000 accepted"
+        NominalHigh Settle "F 6" "Pn above 1,000,000,000 accepted"
+        SevenFirst Settle "F 6" "7 before 6"
+        DirectionMore Settle "F 6" "direction other than 1 taken for negative"
+        ExecutionMore Settle "F 6" "execution other than 1 and 2 taken for 3"
+        PositiveWind Settle "F 6" "positive direction accepted for wind"
+        PositiveSolar Settle "F 6" "positive direction accepted for solar"
+        PositivePauschal Settle "F 6" "positive direction refused in Pauschal"
+        CurvePauschal Settle "F 6" "curve tested in wind Pauschal"
+        CurveSpeedUntested Settle "F 6" "speeds of curve points not tested"
+        CurvePowerUntested Settle "F 6" "powers of curve points not tested"
+        CurvePowerSigned Settle "F 6" "curve powers below 0 accepted"
+        OnePoint Settle "F 6" "one curve point accepted"
+        EqualSpeeds Settle "F 6" "equal speeds accepted"
+        FallingSpeeds Settle "F 6" "falling speeds accepted"
+        CurveUp Settle "R 3" "curve rounded up"
+        CurveNearest Settle "R 3" "curve rounded to the nearest"
+        CurveHeldAbove Settle "R 3" "last power kept above the last speed"
+        CurveHeldBelow Settle "R 3" "first power kept below the first speed"
+        CurveStep Settle "R 3" "power of the point below in place of the line"
+        LastPointOff Settle "R 3" "0 at the last point"
+        FirstPointOff Settle "R 3" "0 at the first point"
+        SumThenRound Settle "R 3" "B rounded once, as a sum"
+        SpeedEdge Settle "F 3" "speed of 1,000 refused"
+        SpeedMore Settle "F 3" "speed of 1,001 accepted"
+        SpeedBelow Settle "F 3" "speed of -1 accepted"
+        IrradianceEdge Settle "F 3" "irradiance of 2,000 refused"
+        IrradianceMore Settle "F 3" "irradiance of 2,001 accepted"
+        IrradianceBelow Settle "F 3" "irradiance of -1 accepted"
+        PowerHighEdge Settle "F 3" "power of 1,000,000,000 refused"
+        PowerHighMore Settle "F 3" "power of 1,000,000,001 accepted"
+        PowerLowEdge Settle "F 3" "power of -1,000,000,000 refused"
+        PowerLowMore Settle "F 3" "power of -1,000,000,001 accepted"
+        PowerBelow Settle "F 3" "power below 0 refused"
+        BeforeMore Settle "F 6" "97 before-quarters accepted"
+        BeforeLess Settle "F 6" "96 before-quarters refused"
+        BeforeAlways Settle "F 6" "97 before-quarters are 8 in every pairing"
+        BeforeNineFirst Settle "F 6" "9 before 8 in before-quarters"
+        MarkUntested Settle "F 6" "mark of 2 taken for unmarked"
+        MarkAny Settle "F 6" "mark of 2 taken for marked"
+        BeforeMeasuredUntested Settle "F 6" "measured power of before-quarters not tested"
+        WindWeatherUntested Settle "F 6" "speed of before-quarters not tested"
+        SolarWeatherUntested Settle "F 6" "irradiance of before-quarters not tested"
+        PauschalAllMarked Settle "F 6" "measured power of all marked ones tested in Pauschal"
+        PauschalWeather Settle "F 6" "weather of before-quarters tested in Pauschal"
+        SolarUnmarked Settle "F 6" "unmarked before-quarters tested in solar Spitz"
+        FirstFive Settle "R 4" "five usable before-quarters taken"
+        FirstThree Settle "R 4" "three usable before-quarters taken"
+        LastFour Settle "R 4" "last four usable ones of the chain taken"
+        FourMarked Settle "R 4" "four marked ones taken, then the 10 % test"
+        FourRecords Settle "R 4" "four first ones taken, then marks and 10 % test"
+        AdjacentFour Settle "R 4" "the four must be adjacent"
+        WindUnmarked Settle "R 4" "unmarked ones taken in wind Spitz"
+        TenPercentLeftOut Settle "R 4" "no 10 % test in wind Spitz"
+        TenPercentNarrow Settle "R 4" "10 x measured kept in 32 bits"
+        TenPercentRounded Settle "R 4" "10 % of Pn rounded down"
+        OtherFourForB Settle "R 4" "B over the first four marked ones without the 10 % test"
+        PauschalLast Settle "R 4" "last marked one taken in Pauschal"
+        PauschalUnmarked Settle "R 4" "first one taken in Pauschal, marked or not"
+        NoneMarkedZero Settle "F 6" "none marked in Pauschal: P0 is 0"
+        SolarNoneMarked Settle "F 6" "none marked in solar Spitz: 12"
+        SolarFour Settle "R 4" "four marked ones taken in solar Spitz"
+        SolarFirst Settle "R 4" "first marked one taken in solar Spitz"
+        SolarAll Settle "R 4" "unmarked ones taken in solar Spitz"
+        SolarNeedsFour Settle "F 6" "four marked ones needed in solar Spitz"
+        MeansRounded Settle "R 4" "means rounded down in place of sums"
+        ThreeEnough Settle "F 6" "three usable ones are enough"
+        TwelveBeforeEleven Settle "F 6" "12 before 11"
+        TwelveUntested Settle "F 6" "B = 0 in wind Spitz: T is 0"
+        TwelveIfCalm Settle "F 6" "B = 0 refused only where every speed is 0"
+        SolarTwelveUntested Settle "F 6" "B = 0 in solar Spitz: T is 0"
+        TwelveLate Settle "F 6" "12 behind the tests of the quarters"
+        NoQuarters Settle "F 6" "no quarter accepted"
+        QuartersMore Settle "F 6" "2,977 quarters accepted"
+        QuartersLess Settle "F 6" "2,976 quarters refused"
+        QuarterNineFirst Settle "F 6" "9 before 8 in quarters"
+        MeasuredUntested Settle "F 6" "measured power of quarters not tested"
+        LimitUntested Settle "F 6" "limit not tested"
+        LimitIfChosen Settle "F 6" "limit tested only where it is L"
+        PlanUntested Settle "F 6" "planned power not tested"
+        QuarterSpeedUntested Settle "F 6" "speed of quarters not tested"
+        QuarterIrradianceUntested Settle "F 6" "irradiance of quarters not tested"
+        WeatherWindPauschal Settle "F 6" "weather of quarters tested in wind Pauschal"
+        WeatherOtherSpitz Settle "F 6" "weather of quarters tested in other Spitz"
+        MonthMore Settle "F 6" "month above 12 taken for winter"
+        MonthZero Settle "F 6" "month 0 taken for winter"
+        MonthEdge Settle "F 3" "month 12 refused"
+        TimeEdge Settle "F 3" "quarter of the day 95 refused"
+        TimeAtZero Settle "F 6" "month not tested where the factor is 0"
+        FirstQuarterOnly Settle "F 6" "fields of the first quarter alone tested"
+        LimitTaken Settle "R 2" "limit always taken in execution 1"
+        PositiveLarger Settle "R 2" "larger one taken in the positive direction"
+        NegativeSmaller Settle "R 2" "smaller one taken in the negative direction"
+        ToleratedRequested Settle "R 2" "execution 2 treated as 1"
+        BothSidesLimit Settle "R 2" "limit taken in execution 3"
+        RaisedL Settle "R 2" "L below 0 raised to 0"
+        CapOnT Settle "R 4" "t capped at Pn in place of T"
+        CapCurve Settle "R 4" "T capped at the curve's largest power"
+        CapWindPauschal Settle "R 4" "wind Pauschal capped at Pn"
+        CapOtherPauschal Settle "R 4" "other Pauschal capped at Pn"
+        CapPlan Settle "R 4" "plan capped at Pn"
+        RaisedPlan Settle "R 4" "plan below 0 raised to 0"
+        RaisedPauschal Settle "R 4" "P0 below 0 raised to 0"
+        WholeT Settle "R 4" "T rounded down to whole W"
+        PlanInPauschal Settle "R 4" "plan taken in other Pauschal"
+        LimitForPlan Settle "R 4" "plan read where the limit stands"
+        MarchWinter Settle "R 4" "March in winter"
+        OctoberWinter Settle "R 4" "October in winter"
+        FebruarySummer Settle "R 4" "February in summer"
+        NovemberSummer Settle "R 4" "November in summer"
+        SeasonsSwapped Settle "R 4" "seasons swapped"
+        SummerTime Settle "R 4" "clock an hour ahead from April to September"
+        Summer24Early Settle "R 4" "summer morning from quarter 23"
+        Summer24Late Settle "R 4" "summer morning from quarter 25"
+        Summer36Early Settle "R 4" "summer noon from quarter 35"
+        Summer36Late Settle "R 4" "summer noon from quarter 37"
+        Summer60Early Settle "R 4" "summer afternoon from quarter 59"
+        Summer60Late Settle "R 4" "summer afternoon from quarter 61"
+        Summer76Early Settle "R 4" "summer evening from quarter 75"
+        Summer76Late Settle "R 4" "summer evening from quarter 77"
+        Winter36Early Settle "R 4" "winter morning from quarter 35"
+        Winter36Late Settle "R 4" "winter morning from quarter 37"
+        Winter40Early Settle "R 4" "winter noon from quarter 39"
+        Winter40Late Settle "R 4" "winter noon from quarter 41"
+        Winter56Early Settle "R 4" "winter afternoon from quarter 55"
+        Winter56Late Settle "R 4" "winter afternoon from quarter 57"
+        Winter67Early Settle "R 4" "winter evening from quarter 66"
+        BelowZero Settle "R 5" "a difference the other way taken off"
+        Absolute Settle "R 5" "a difference the other way counted"
+        RoundUp Settle "R 6" "sums rounded up"
+        RoundNearest Settle "R 6" "sums rounded to the nearest"
+        RemainderLost Settle "R 6" "remainder dropped where a magnitude is 0"
+        RemainderWhole Settle "R 6" "remainder cut to quarters of a Wh"
+        PlusPositive Settle "R 6" "no minus in the positive direction"
+        MinusNegative Settle "R 6" "minus in the negative direction"
+        PlusTotal Settle "F 7" "total without its sign"
+        TotalNearest Settle "R 6" "total rounded to the nearest on its own"
+        ZeroCounted Settle "F 6" "zero links counted"
+        PlacesUncounted Settle "F 6" "one link counted for the plant and one for the measure"
+        CurveUncounted Settle "F 6" "curve points not counted"
+        BeforeCounted Settle "F 6" "before-quarters counted in every pairing"
+        BeforeUncounted Settle "F 6" "before-quarters not counted in Pauschal"
+        LaterZeroed Settle "F 6" "later places zeroed"
+        LongerList Settle "F 6" "a longer list is 13"
+        ListUntested Settle "F 6" "a short list filled as far as it goes"
+        ListBeforeEight Settle "F 6" "an empty list is 13 at once"
+        FreshKeeps Fresh "F 8" "other bytes kept"
+        FreshNone Fresh "F 8" "U = 0 written"
+        FreshAll Fresh "F 8" "U = all records written"
+        FreshRagged Fresh "F 8" "any length that is not 0 accepted"
+        FreshLonger Fresh "F 8" "65,536 records accepted"
+        LongRecord Append "F 9" "a longer record cut to 32 bytes"
+        ShortRecord Append "F 9" "a shorter record filled with zeros"
+        KindMore Append "F 9" "unknown kind is 15"
+        NextUntested Append "F 9" "bytes 4-7 not tested"
+        PlantLinksUntested Append "F 9" "bytes 8-15 not tested in kind 1"
+        MeasureLinksUntested Append "F 9" "bytes 8-15 not tested in kind 3"
+        SecondUntested Append "F 9" "bytes 12-15 not tested in kinds 1 and 3"
+        MoreTested Append "F 9" "bytes 16-19 tested too in kinds 1 and 3"
+        OwnerFirst Append "F 9" "15 before 14"
+        OwnerUnused Append "F 9" "owner behind U accepted if it fits"
+        OwnerKind Append "F 9" "a quarter filed under a plant"
+        PointUnderMeasure Append "F 9" "a curve point filed under a measure"
+        PlantAnywhere Append "F 9" "a plant filed under a plant"
+        AppendWalk Append "F 9" "chain not tested on the way"
+        WalkBeforeOwner Append "F 9" "2 and 3 of the plants' chain before 15"
+        FullUntested Append "F 9" "16 not tested"
+        FullAtOnce Append "F 9" "16 directly behind 1"
+        FullOneLess Append "F 9" "16 with one unused record left"
+        UsedKept Append "F 9" "U not raised"
+        LinkKept Append "F 9" "last link not set"
+        AtFront Append "F 9" "filed at the front of its chain"
+        OtherLink Append "F 9" "measures and quarters filed at bytes 8-11"
+        UnusedZeroed Append "F 9" "records behind the new one zeroed"
+        AppendCount Append "F 9" "a 97th before-quarter is 8"
+        AppendTechnology Append "F 9" "a curve point under another plant than wind Spitz is 15"
+        AppendRanges Append "F 9" "a quarter with month 0 or above 12 is 9"
+        ShownAtUsed Show "F 10" "record U shown if there is one"
+        HeadHidden Show "F 10" "the head not shown"
+        KnownKinds Show "F 10" "unknown kinds not shown"
+        ShownOnOne Show "F 10" "records shown whatever the head says"
+        TwiceAllowed Audit "F 11" "a record named twice accepted"
+        OrphansAllowed Audit "F 11" "a record named by none accepted"
+        HeadUntested Audit "F 11" "the head's link not tested"
+        HeadUncounted Audit "F 11" "the head's link names nothing"
+        HeadLast Audit "F 11" "the head's link tested last"
+        UnknownKinds Audit "F 11" "unknown kinds passed over"
+        LinksBackward Audit "F 11" "links in falling byte order"
+        ReachedOnly Audit "F 11" "links of records that nothing names not tested"
+        OrphanAtOnce Audit "F 11" "17 on reaching a record that nothing names"
+        NextKindFree Audit "F 11" "kind not tested at next links"
+        BothLinks Audit "F 11" "bytes 8-15 tested in every kind"
+        SharedNext Audit "F 11" "next links name nothing"
+        FiveEnds Program "F 12" "5 ends the program"
+        FiveLine Program "F 12" "a line for 5"
+        FourLine Program "F 12" "a line for 4"
+        OtherEnds Program "F 12" "every refusal ends the program"
+        TwoGoesOn Program "F 12" "2 leads on to the next measure"
+        ThreeGoesOn Program "F 12" "3 leads on to the next measure"
+        SevenSkips Program "F 12" "7 leads on to the next plant"
+        TwoSkips Program "F 12" "2 below a measure leads on to the next plant"
+        FirstMeasure Program "F 12" "first measure of each plant alone"
+        FirstPlant Program "F 12" "first plant alone"
+        MeasureKept Program "F 12" "k not set back to 1"
+        CarryAcross Program "R 6" "remainder carried to the next measure"
+        ZeroLeftOut Program "F 12" "no Q line for an amount of 0"
+        QuarterFromZero Program "F 12" "quarters counted from 0"
+        MinusZero Program "F 12" "-0 in the positive direction"
+        InputLess Program "F 12" "65,536 bytes refused"
+        InputMore Program "F 12" "longer input accepted"
+        NoPlantLine Program "F 12" "E 0 0 1 where there is no plant"
+        BrokenPlant Program "F 12" "E p 0 for a broken link to plant p"
+    }
+}
+
+/// U of a head that is not refused.
+fn head(slip: Slip, archive: &[u8]) -> Result<u64, Refusal> {
+    let all = (archive.len() / RECORD) as u64;
+    let most = match slip {
+        Slip::RecordsMore => MOST_RECORDS + 1,
+        Slip::RecordsLess => MOST_RECORDS - 1,
+        _ => MOST_RECORDS,
+    };
+    let whole = archive.len() % RECORD == 0 || slip == Slip::RaggedLength;
+    test(whole && (1..=most as u64).contains(&all), 1)?;
+    let head = record(archive, 0);
+    let text = match slip {
+        Slip::TextUntested => 0,
+        Slip::TextStart => 3,
+        _ => 4,
+    };
+    test(head[..text] == b"AARB"[..text], 1)?;
+    let used = match slip {
+        Slip::UsedMore => link(head, 4).min(all),
+        _ => link(head, 4),
+    };
+    let least = if slip == Slip::UsedNone { 0 } else { 1 };
+    test((least..=all).contains(&used), 1)?;
+    if slip == Slip::HeadLink {
+        test(link(head, FIRST) < used, 1)?;
+    }
+    Ok(used)
 }
 
 struct Reader<'a> {
@@ -116,23 +390,34 @@ impl Reader<'_> {
         link(record(self.archive, number), at)
     }
 
-    fn above(&self, owner: u64, holder: u64, to: u64) -> Result<(), Refusal> {
-        let low = if self.slip == Slip::OwnerNumber { owner } else { holder };
-        let all = (self.archive.len() / RECORD) as u64;
-        let high = if self.slip == Slip::UnusedRecords { all } else { self.used };
-        if to <= low || to >= high {
-            Err(2)
-        } else {
-            Ok(())
+    fn field(&self, record: &[u8], at: usize) -> i128 {
+        match self.slip {
+            Slip::BigEndian => {
+                i128::from(i32::from_be_bytes([record[at], record[at + 1], record[at + 2], record[at + 3]]))
+            }
+            Slip::UnsignedFields => i128::from(link(record, at)),
+            _ => field(record, at),
         }
     }
 
+    fn above(&self, owner: u64, holder: u64, to: u64) -> Result<(), Refusal> {
+        let low = match self.slip {
+            Slip::OwnerNumber => owner + 1,
+            Slip::HolderItself => holder,
+            Slip::FirstLinkFree if owner == holder => 1,
+            _ => holder + 1,
+        };
+        let all = (self.archive.len() / RECORD) as u64;
+        let high = match self.slip {
+            Slip::UnusedRecords => all,
+            Slip::LinkAtUsed => all.min(self.used + 1),
+            _ => self.used,
+        };
+        test((low..high).contains(&to), 2)
+    }
+
     fn kind(&self, to: u64, kind: u8) -> Result<(), Refusal> {
-        if record(self.archive, to)[0] == kind {
-            Ok(())
-        } else {
-            Err(3)
-        }
+        test(self.slip == Slip::KindUntested || record(self.archive, to)[0] == kind, 3)
     }
 
     /// Up to `most` records of a chain.
@@ -140,13 +425,17 @@ impl Reader<'_> {
         let mut numbers = Vec::new();
         let (mut holder, mut to) = (owner, self.link(owner, at));
         let apart = self.slip == Slip::LinksThenKinds;
+        let all = (self.archive.len() / RECORD) as u64;
         while to != 0 && (numbers.len() as u64) < most {
+            if self.slip == Slip::KindBeforeLink && to < all {
+                self.kind(to, kind)?;
+            }
             self.above(owner, holder, to)?;
             if !apart {
                 self.kind(to, kind)?;
             }
             numbers.push(to);
-            if numbers.len() > 70_000 {
+            if numbers.len() as u64 > all {
                 return Err(ENDLESS);
             }
             (holder, to) = (to, self.link(to, NEXT));
@@ -165,7 +454,8 @@ impl Reader<'_> {
         self.chain(owner, at, kind, if self.slip == Slip::StopAtLimit { limit + 1 } else { u64::MAX })
     }
 
-    fn place(&self, owner: u64, at: usize, kind: u8, wanted: u64, missing: Refusal) -> Result<u64, Refusal> {
+    /// The records of a chain up to a place.
+    fn place(&self, owner: u64, at: usize, kind: u8, wanted: u64, missing: Refusal) -> Result<Vec<u64>, Refusal> {
         if wanted == 0 || (self.slip == Slip::EarlyMissing && wanted >= self.used) {
             return Err(missing);
         }
@@ -179,7 +469,91 @@ impl Reader<'_> {
             self.above(owner, found, next)?;
             self.kind(next, kind)?;
         }
-        Ok(found)
+        Ok(numbers)
+    }
+
+    /// Refusal 6.
+    fn plant(&self, plant: &[u8]) -> Result<(Pairing, i128), Refusal> {
+        let technology = match plant[1] {
+            1 | 2 => plant[1],
+            _ if self.slip == Slip::TechnologyMore => 3,
+            other => other,
+        };
+        let variant = match plant[2] {
+            1 => 1,
+            _ if self.slip == Slip::VariantMore => 2,
+            other => other,
+        };
+        let nominal = self.field(plant, 16);
+        let pairing = Pairing::of(technology, variant).ok_or(6u32)?;
+        let low = match self.slip {
+            Slip::NominalLowEdge => 100_001,
+            Slip::NominalLow => 0,
+            _ => *NOMINAL.start(),
+        };
+        let high = match self.slip {
+            Slip::NominalHighEdge => 999_999_999,
+            Slip::NominalHigh => i128::MAX,
+            _ => *NOMINAL.end(),
+        };
+        let needed = self.slip != Slip::NominalSpitz || matches!(pairing, Pairing::WindSpitz | Pairing::SolarPauschal);
+        test((low..=high).contains(&nominal) || !needed, 6)?;
+        Ok((pairing, nominal))
+    }
+
+    /// Refusal 7: gives whether the direction is positive, and the execution.
+    fn terms(&self, measure: &[u8], technology: u8, variant: u8) -> Result<(bool, u8), Refusal> {
+        let direction = match measure[1] {
+            1 => 1,
+            _ if self.slip == Slip::DirectionMore => 2,
+            other => other,
+        };
+        let execution = match measure[2] {
+            1 | 2 => measure[2],
+            _ if self.slip == Slip::ExecutionMore => 3,
+            other => other,
+        };
+        test((1..=2).contains(&direction) && (1..=3).contains(&execution), 7)?;
+        let allowed = match technology {
+            1 => self.slip == Slip::PositiveWind,
+            2 => self.slip == Slip::PositiveSolar,
+            _ => variant == 1 || self.slip != Slip::PositivePauschal,
+        };
+        test(direction == 2 || allowed, 7)?;
+        Ok((direction == 1, execution))
+    }
+
+    fn power(&self, value: i128) -> bool {
+        let low = match self.slip {
+            Slip::PowerLowEdge => -999_999_999,
+            Slip::PowerLowMore => -1_000_000_001,
+            Slip::PowerBelow => 0,
+            _ => *POWER.start(),
+        };
+        let high = match self.slip {
+            Slip::PowerHighEdge => 999_999_999,
+            Slip::PowerHighMore => 1_000_000_001,
+            _ => *POWER.end(),
+        };
+        (low..=high).contains(&value)
+    }
+
+    fn speed(&self, value: i128) -> bool {
+        match self.slip {
+            Slip::SpeedEdge => (0..=999).contains(&value),
+            Slip::SpeedMore => (0..=1_001).contains(&value),
+            Slip::SpeedBelow => (-1..=1_000).contains(&value),
+            _ => SPEED.contains(&value),
+        }
+    }
+
+    fn irradiance(&self, value: i128) -> bool {
+        match self.slip {
+            Slip::IrradianceEdge => (0..=1_999).contains(&value),
+            Slip::IrradianceMore => (0..=2_001).contains(&value),
+            Slip::IrradianceBelow => (-1..=2_000).contains(&value),
+            _ => IRRADIANCE.contains(&value),
+        }
     }
 }
 
@@ -191,9 +565,93 @@ fn test(good: bool, number: Refusal) -> Result<(), Refusal> {
     }
 }
 
+/// The curve's value at a speed as a fraction, and rounded.
+fn slipped_power(slip: Slip, curve: &[(i128, i128)], speed: i128) -> ((i128, i128), i128) {
+    let (first, last) = match (curve.first(), curve.last()) {
+        (Some(&first), Some(&last)) => (first, last),
+        _ => return ((0, 1), 0),
+    };
+    for pair in curve.windows(2) {
+        let ((low, from), (high, to)) = (pair[0], pair[1]);
+        if low < speed && speed < high {
+            let (over, under) = (from * (high - speed) + to * (speed - low), high - low);
+            let rounded = match slip {
+                Slip::RoundDrop if to < from => from - (from - to) * (speed - low) / under,
+                Slip::CurveUp => (over + under - 1).div_euclid(under),
+                Slip::CurveNearest => (2 * over + under).div_euclid(2 * under),
+                Slip::CurveStep => from,
+                _ => over.div_euclid(under),
+            };
+            return ((over, under), rounded);
+        }
+    }
+    let power = match slip {
+        Slip::CurveHeldAbove if speed > last.0 => last.1,
+        Slip::CurveHeldBelow if speed < first.0 => first.1,
+        Slip::LastPointOff if speed == last.0 => 0,
+        Slip::FirstPointOff if speed == first.0 => 0,
+        _ => curve_power(curve, speed),
+    };
+    ((power, 1), power)
+}
+
+/// Factors of solar Pauschal.
+fn slipped_factor(slip: Slip, month: u8, quarter: u8) -> i128 {
+    let summer = match (slip, month) {
+        (Slip::MarchWinter, 3) | (Slip::OctoberWinter, 10) => false,
+        (Slip::FebruarySummer, 2) | (Slip::NovemberSummer, 11) => true,
+        (Slip::SeasonsSwapped, _) => !(3..=10).contains(&month),
+        _ => (3..=10).contains(&month),
+    };
+    let quarter = match slip {
+        Slip::SummerTime if (4..=9).contains(&month) => quarter + 4,
+        _ => quarter,
+    };
+    let (mut edges, factors) = if summer {
+        ([24, 36, 60, 76], [0, 2_456, 6_189, 2_456, 0])
+    } else {
+        ([36, 40, 56, 67], [0, 2_796, 5_030, 2_796, 0])
+    };
+    match slip {
+        Slip::Summer24Early if summer => edges[0] = 23,
+        Slip::Summer24Late if summer => edges[0] = 25,
+        Slip::Summer36Early if summer => edges[1] = 35,
+        Slip::Summer36Late if summer => edges[1] = 37,
+        Slip::Summer60Early if summer => edges[2] = 59,
+        Slip::Summer60Late if summer => edges[2] = 61,
+        Slip::Summer76Early if summer => edges[3] = 75,
+        Slip::Summer76Late if summer => edges[3] = 77,
+        Slip::Winter36Early if !summer => edges[0] = 35,
+        Slip::Winter36Late if !summer => edges[0] = 37,
+        Slip::Winter40Early if !summer => edges[1] = 39,
+        Slip::Winter40Late if !summer => edges[1] = 41,
+        Slip::Winter56Early if !summer => edges[2] = 55,
+        Slip::Winter56Late if !summer => edges[2] = 57,
+        Slip::Winter67Early if !summer => edges[3] = 66,
+        Slip::WinterToFive if !summer => edges[3] = 68,
+        _ => {}
+    }
+    factors[edges.iter().filter(|&&edge| quarter >= edge).count()]
+}
+
+/// What a wrong program hands from measure to measure: a remainder over its denominator.
+type Carry = (i128, i128);
+
 /// Settle with one slip, as the host calls it.
 pub fn host_settle(slip: Slip, archive: &[u8], p: u64, k: u64, list: &mut [u8], result: &mut [u8]) -> Refusal {
-    match settle(slip, archive, p, k, list, result) {
+    carried(slip, archive, p, k, list, result, &mut (0, 1))
+}
+
+fn carried(
+    slip: Slip,
+    archive: &[u8],
+    p: u64,
+    k: u64,
+    list: &mut [u8],
+    result: &mut [u8],
+    carry: &mut Carry,
+) -> Refusal {
+    match settle(slip, archive, p, k, list, result, carry) {
         Ok(()) => 0,
         Err(number) => {
             if slip == Slip::ZeroedResult {
@@ -204,47 +662,78 @@ pub fn host_settle(slip: Slip, archive: &[u8], p: u64, k: u64, list: &mut [u8], 
     }
 }
 
-fn settle(slip: Slip, archive: &[u8], p: u64, k: u64, list: &mut [u8], result: &mut [u8]) -> Result<(), Refusal> {
+fn settle(
+    slip: Slip,
+    archive: &[u8],
+    p: u64,
+    k: u64,
+    list: &mut [u8],
+    result: &mut [u8],
+    carry: &mut Carry,
+) -> Result<(), Refusal> {
     let is = |other: Slip| slip == other;
-    let (p, k) = if is(Slip::NarrowPlaces) { (p & 0xffff_ffff, k & 0xffff_ffff) } else { (p, k) };
+    let (p, k) = match slip {
+        Slip::NarrowPlaces => (p & 0xffff_ffff, k & 0xffff_ffff),
+        Slip::PlacesFromZero => (p.saturating_add(1), k.saturating_add(1)),
+        _ => (p, k),
+    };
     if is(Slip::ResultFirst) {
         test(result.len() == 24, 13)?;
     }
-    let reader = Reader { archive, used: used(archive)?, slip };
+    let reader = Reader { archive, used: head(slip, archive)?, slip };
     if is(Slip::EarlyZero) {
         test(k != 0 || p == 0, 5)?;
     }
-    let plant_number = reader.place(0, FIRST, PLANT, p, 4)?;
+    if is(Slip::ListBeforeEight) {
+        test(list.len() >= 8, 13)?;
+    }
+    let plants = reader.place(0, FIRST, PLANT, p, 4)?;
+    let plant_number = plants[plants.len() - 1];
     let plant = record(archive, plant_number);
-    let nominal = field(plant, 16);
-    let pairing = Pairing::of(plant[1], plant[2]);
-    let needs_nominal = !is(Slip::NominalSpitz) || matches!(pairing, Some(Pairing::WindSpitz | Pairing::SolarPauschal));
-    let six = test(pairing.is_some() && (NOMINAL.contains(&nominal) || !needs_nominal), 6);
+    let mut six = reader.plant(plant);
+    if is(Slip::PlantsBefore) {
+        for &number in &plants {
+            six = reader.plant(record(archive, number)).and(six);
+        }
+    }
     if is(Slip::PlantFirst) {
         six?;
     }
-    let measure_number = reader.place(plant_number, SECOND, MEASURE, k, 5)?;
-    six?;
-    let pairing = pairing.ok_or(6u32)?;
-    let measure = record(archive, measure_number);
-    let (direction, execution) = (measure[1], measure[2]);
-    test((1..=2).contains(&direction) && (1..=3).contains(&execution), 7)?;
-    let positive = direction == 1;
-    test(!positive || plant[1] == 3, 7)?;
+    let measures = reader.place(plant_number, SECOND, MEASURE, k, 5)?;
+    let measure_number = measures[measures.len() - 1];
+    let seven = |number: u64| reader.terms(record(archive, number), plant[1], plant[2]);
+    if is(Slip::SevenFirst) {
+        seven(measure_number)?;
+    }
+    let (pairing, nominal) = six?;
+    if is(Slip::MeasuresBefore) {
+        measures.iter().try_for_each(|&number| seven(number).map(|_| ()))?;
+    }
+    let (positive, execution) = seven(measure_number)?;
     let mut links = p + k;
+    if is(Slip::PlacesUncounted) {
+        links = 2;
+    }
 
     // The three chains, walked when their turn comes.
     let always = is(Slip::ChainsAlways);
     let wind = pairing == Pairing::WindSpitz;
-    let with_before = !matches!(pairing, Pairing::SolarPauschal | Pairing::OtherSpitz);
+    let solar = pairing == Pairing::SolarSpitz;
+    let pauschal = matches!(pairing, Pairing::WindPauschal | Pairing::OtherPauschal);
+    let with_curve = wind || (is(Slip::CurvePauschal) && pairing == Pairing::WindPauschal);
+    let with_before = wind || solar || pauschal;
     let nothing = || Ok(Vec::new());
-    let curve_walk = if wind || always { reader.lower(plant_number, FIRST, POINT, u64::MAX - 1) } else { nothing() };
+    let curve_walk =
+        if with_curve || always { reader.lower(plant_number, FIRST, POINT, u64::MAX - 1) } else { nothing() };
     let before_walk = if with_before || always { reader.lower(measure_number, FIRST, BEFORE, 96) } else { nothing() };
     let quarter_walk = reader.lower(measure_number, SECOND, QUARTER, 2_976);
     if is(Slip::WalksFirst) {
         curve_walk.clone()?;
         before_walk.clone()?;
         quarter_walk.clone()?;
+    }
+    if is(Slip::ZeroCounted) {
+        links += u64::from(with_curve) + u64::from(with_before) + 1;
     }
     let touched = |curve: &[(i128, i128)], at: usize| {
         let below = if at == 0 { curve[0].0 - 1 } else { curve[at - 1].0 };
@@ -259,160 +748,351 @@ fn settle(slip: Slip, archive: &[u8], p: u64, k: u64, list: &mut [u8], result: &
 
     let numbers = curve_walk.clone()?;
     let mut curve: Vec<(i128, i128)> = Vec::new();
-    if wind {
-        links += numbers.len() as u64;
-        curve =
-            numbers.iter().map(|&number| record(archive, number)).map(|one| (field(one, 8), field(one, 12))).collect();
+    if with_curve {
+        if wind && !is(Slip::CurveUncounted) {
+            links += numbers.len() as u64;
+        }
+        let points = numbers.iter().map(|&number| record(archive, number));
+        curve = points.map(|one| (reader.field(one, 8), reader.field(one, 12))).collect();
+        let fewest = if is(Slip::OnePoint) { 1 } else { 2 };
         if is(Slip::CountFirst) {
-            test(curve.len() >= 2, 10)?;
+            test(curve.len() >= fewest, 10)?;
         }
         for at in 0..curve.len() {
-            test(SPEED.contains(&curve[at].0), 9)?;
-            if !is(Slip::TouchedPowers) || touched(&curve, at) {
-                test(CURVE_POWER.contains(&curve[at].1), 9)?;
+            test(reader.speed(curve[at].0) || is(Slip::CurveSpeedUntested), 9)?;
+            if !is(Slip::CurvePowerUntested) && (!is(Slip::TouchedPowers) || touched(&curve, at)) {
+                let signed = is(Slip::CurvePowerSigned) && curve[at].1 < 0;
+                test(reader.power(curve[at].1) && (curve[at].1 >= *CURVE_POWER.start() || signed), 9)?;
             }
             if is(Slip::PointByPoint) && at > 0 {
                 test(curve[at].0 > curve[at - 1].0, 10)?;
             }
         }
-        test(curve.len() >= 2 && curve.windows(2).all(|pair| pair[0].0 < pair[1].0), 10)?;
+        let rising = |pair: &[(i128, i128)]| match slip {
+            Slip::EqualSpeeds => pair[0].0 <= pair[1].0,
+            Slip::FallingSpeeds => pair[0].0 != pair[1].0,
+            _ => pair[0].0 < pair[1].0,
+        };
+        test(curve.len() >= fewest && curve.windows(2).all(rising), 10)?;
     }
-    let power_at = |speed: i128| {
-        if is(Slip::RoundDrop) {
-            for pair in curve.windows(2) {
-                let ((low, from), (high, to)) = (pair[0], pair[1]);
-                if low < speed && speed < high && to < from {
-                    return from - (from - to) * (speed - low) / (high - low);
-                }
-            }
-        }
-        curve_power(&curve, speed)
-    };
+    let power_at = |speed: i128| slipped_power(slip, &curve, speed).1;
 
+    if is(Slip::BeforeAlways) && !with_before {
+        let numbers = reader.lower(measure_number, FIRST, BEFORE, 96).unwrap_or_default();
+        test(numbers.len() <= 96, 8)?;
+    }
+    if is(Slip::BeforeCounted) && !with_before {
+        links += reader.lower(measure_number, FIRST, BEFORE, 96).unwrap_or_default().len() as u64;
+    }
     let numbers = before_walk.clone()?;
     let (mut a, mut b) = (0, 1);
+    let mut twelve = Ok(());
     if with_before {
         let before: Vec<&[u8]> = numbers.iter().map(|&number| record(archive, number)).collect();
         if is(Slip::NoneIsEight) {
             test(!before.is_empty(), 8)?;
         }
-        test(before.len() <= 96, 8)?;
-        let solar = pairing == Pairing::SolarSpitz;
-        let ten = wind || (is(Slip::TenPercentPauschal) && !solar) || (is(Slip::SolarTenPercent) && solar);
-        let meets = |one: &[u8]| {
-            let measured = 10 * field(one, 8);
-            !ten || measured > nominal || (measured == nominal && !is(Slip::TenPercentAbove))
+        let most_before = match slip {
+            Slip::BeforeMore => 97,
+            Slip::BeforeLess => 95,
+            _ => 96,
         };
-        let needed = if wind { 4 } else { 1 };
-        let most = if solar { usize::MAX } else { needed };
-        let marked: Vec<&[u8]> = before.iter().copied().filter(|one| one[1] == 1).collect();
-        let usable: Vec<&[u8]> = marked.iter().copied().filter(|one| meets(one)).take(most).collect();
+        let eight = test(before.len() <= most_before, 8);
+        if !is(Slip::BeforeNineFirst) {
+            eight?;
+        }
+        let ten = (wind && !is(Slip::TenPercentLeftOut))
+            || (is(Slip::TenPercentPauschal) && pauschal)
+            || (is(Slip::SolarTenPercent) && solar);
+        let measured = |one: &[u8]| reader.field(one, 8);
+        let meets = |one: &[u8]| {
+            let tenfold = match slip {
+                Slip::TenPercentNarrow => i128::from((10 * measured(one)) as i32),
+                _ => 10 * measured(one),
+            };
+            match slip {
+                _ if !ten => true,
+                Slip::TenPercentAbove => tenfold > nominal,
+                Slip::TenPercentRounded => measured(one) >= nominal / 10,
+                _ => tenfold >= nominal,
+            }
+        };
+        let marks = |one: &[u8]| match one[1] {
+            1 => true,
+            2..=255 => is(Slip::MarkAny),
+            0 => {
+                (is(Slip::WindUnmarked) && wind)
+                    || (is(Slip::SolarAll) && solar)
+                    || (is(Slip::PauschalUnmarked) && pauschal)
+            }
+        };
+        let needed = match slip {
+            Slip::ThreeEnough | Slip::FirstThree if wind => 3,
+            Slip::SolarNeedsFour if solar => 4,
+            Slip::NoneMarkedZero if pauschal => 0,
+            Slip::SolarNoneMarked if solar => 0,
+            _ if wind => 4,
+            _ => 1,
+        };
+        let most = match slip {
+            Slip::FirstFive if wind => 5,
+            Slip::FirstThree if wind => 3,
+            Slip::SolarFour if solar => 4,
+            Slip::SolarFirst if solar => 1,
+            _ if wind => 4,
+            _ if solar => usize::MAX,
+            _ => 1,
+        };
+        let marked: Vec<&[u8]> = before.iter().copied().filter(|one| marks(one)).collect();
+        let mut usable: Vec<&[u8]> = marked.iter().copied().filter(|one| meets(one)).collect();
+        match slip {
+            Slip::LastFour if wind => usable.reverse(),
+            Slip::PauschalLast if pauschal => usable.reverse(),
+            Slip::FourMarked if wind => usable = marked.iter().copied().take(4).filter(|one| meets(one)).collect(),
+            Slip::FourRecords if wind => {
+                usable = before.iter().copied().take(4).filter(|one| marks(one) && meets(one)).collect();
+            }
+            Slip::AdjacentFour if wind => {
+                let all_four = |four: &&[&[u8]]| four.iter().all(|one| marks(one) && meets(one));
+                usable = before.windows(4).find(all_four).map_or(vec![], |four| four.to_vec());
+            }
+            _ => {}
+        }
+        usable.truncate(most);
 
         // 9.
+        let weather = |one: &[u8]| reader.field(one, 16);
         let mut seen = 0;
         for one in &before {
             let behind = seen >= most;
             if !(behind && is(Slip::MarksOfUsed)) {
-                test(one[1] <= 1, 9)?;
+                test(one[1] <= 1 || is(Slip::MarkUntested) || is(Slip::MarkAny), 9)?;
             }
-            let is_marked = one[1] == 1;
+            let is_marked = marks(one);
             let is_usable = is_marked && meets(one);
             let power = (is_marked && !behind && (is_usable || !is(Slip::UsedOnly)))
                 || (is_marked && is(Slip::AllMarked) && wind)
+                || (is_marked && is(Slip::PauschalAllMarked) && pauschal)
+                || (is(Slip::SolarUnmarked) && solar)
                 || (is(Slip::AllBefore) && wind);
-            test(!power || POWER.contains(&field(one, 8)), 9)?;
-            if wind {
-                let weather = (is_usable && !behind && !(is(Slip::FewFirst) && usable.len() < 4))
+            test(!power || reader.power(measured(one)) || is(Slip::BeforeMeasuredUntested), 9)?;
+            if wind && !is(Slip::WindWeatherUntested) {
+                let tested = (is_usable && !behind && !(is(Slip::FewFirst) && usable.len() < 4))
                     || (is_marked && !behind && is(Slip::WeatherOfMarked))
                     || (is_usable && is(Slip::WeatherBehind));
-                test(!weather || SPEED.contains(&field(one, 16)), 9)?;
+                test(!tested || reader.speed(weather(one)), 9)?;
             }
-            if solar && is_marked {
-                test(IRRADIANCE.contains(&field(one, 16)), 9)?;
+            if solar && (is_marked || is(Slip::SolarUnmarked)) && !is(Slip::SolarWeatherUntested) {
+                test(reader.irradiance(weather(one)), 9)?;
+            }
+            if pauschal && is_marked && !behind && is(Slip::PauschalWeather) {
+                test(reader.irradiance(weather(one)), 9)?;
             }
             seen += usize::from(is_usable);
         }
+        eight?;
+        let curve_sum = |ones: &[&[u8]]| match slip {
+            Slip::SumThenRound => {
+                let parts = ones.iter().map(|one| slipped_power(slip, &curve, weather(one)).0);
+                let (over, under) =
+                    parts.fold((0, 1), |sum: (i128, i128), part| (sum.0 * part.1 + part.0 * sum.1, sum.1 * part.1));
+                over.div_euclid(under)
+            }
+            _ => ones.iter().map(|one| power_at(weather(one))).sum(),
+        };
+        if is(Slip::TwelveBeforeEleven) && wind {
+            test(curve_sum(&usable) != 0, 12)?;
+        }
         test(usable.len() >= needed, 11)?;
-        a = usable.iter().map(|one| field(one, 8)).sum();
+        a = usable.iter().map(|one| measured(one)).sum();
         if wind {
-            b = usable.iter().map(|one| power_at(field(one, 16))).sum();
+            b = match slip {
+                Slip::OtherFourForB => curve_sum(&marked[..4]),
+                _ => curve_sum(&usable),
+            };
         }
         if solar {
-            b = usable.iter().map(|one| field(one, 16)).sum();
+            b = usable.iter().map(|one| weather(one)).sum();
             if is(Slip::RaisedA) {
                 a = a.max(0);
             }
         }
-        test(b != 0, 12)?;
-        links += if is(Slip::UsedLinks) { usable.len() } else { before.len() } as u64;
+        let calm = usable.iter().all(|one| weather(one) == 0);
+        let passed = b != 0
+            || (wind && (is(Slip::TwelveUntested) || (is(Slip::TwelveIfCalm) && !calm)))
+            || (solar && is(Slip::SolarTwelveUntested));
+        twelve = test(passed, 12);
+        if !is(Slip::TwelveLate) {
+            twelve?;
+        }
+        if b == 0 {
+            (a, b) = (0, 1);
+        }
+        if is(Slip::MeansRounded) && !pauschal {
+            let count = usable.len() as i128;
+            (a, b) = (a.div_euclid(count), b.div_euclid(count).max(1));
+        }
+        links += match slip {
+            Slip::UsedLinks => usable.len(),
+            Slip::BeforeUncounted if pauschal => 0,
+            _ => before.len(),
+        } as u64;
     }
 
     let numbers = quarter_walk.clone()?;
     links += numbers.len() as u64;
-    test((1..=2_976).contains(&numbers.len()), 8)?;
+    let fewest = if is(Slip::NoQuarters) { 0 } else { 1 };
+    let most_quarters = match slip {
+        Slip::QuartersMore => 2_977,
+        Slip::QuartersLess => 2_975,
+        _ => 2_976,
+    };
+    let eight = test((fewest..=most_quarters).contains(&numbers.len()), 8);
+    if !is(Slip::QuarterNineFirst) {
+        eight?;
+    }
     let places = if is(Slip::RaggedPlace) { (list.len() + 7) / 8 } else { list.len() / 8 };
     if is(Slip::ListFirst) {
         test(places >= numbers.len(), 13)?;
     }
     let quarters: Vec<&[u8]> = numbers.iter().map(|&number| record(archive, number)).collect();
-    for one in &quarters {
+    let tested = if is(Slip::FirstQuarterOnly) { quarters.len().min(1) } else { quarters.len() };
+    for one in &quarters[..tested] {
         let day = pairing == Pairing::SolarPauschal;
-        let needs_limit =
-            execution == 1 || (execution == 2 && is(Slip::LimitAlways)) || (execution == 3 && is(Slip::LimitBothSides));
-        test(POWER.contains(&field(one, 8)), 9)?;
-        test(!needs_limit || POWER.contains(&field(one, 12)), 9)?;
-        test(!wind || SPEED.contains(&field(one, 16)), 9)?;
-        test(pairing != Pairing::SolarSpitz && !is(Slip::WeatherAlways) || IRRADIANCE.contains(&field(one, 16)), 9)?;
-        test(pairing != Pairing::OtherSpitz && !is(Slip::PlanAlways) || POWER.contains(&field(one, 20)), 9)?;
-        test(!(day || is(Slip::MonthAlways)) || (1..=12).contains(&one[1]), 9)?;
-        test(!(day || is(Slip::MonthAlways)) || one[2] <= 95 || is(Slip::TimeUntested), 9)?;
+        let (measured, limit, weather) = (reader.field(one, 8), reader.field(one, 12), reader.field(one, 16));
+        let chosen = if positive { limit < measured } else { limit > measured };
+        let needs_limit = match execution {
+            1 => !is(Slip::LimitUntested) && (chosen || !is(Slip::LimitIfChosen)),
+            2 => is(Slip::LimitAlways),
+            _ => is(Slip::LimitBothSides),
+        };
+        test(reader.power(measured) || is(Slip::MeasuredUntested), 9)?;
+        test(!needs_limit || reader.power(limit), 9)?;
+        test(!wind || reader.speed(weather) || is(Slip::QuarterSpeedUntested), 9)?;
+        let needs_irradiance = (solar && !is(Slip::QuarterIrradianceUntested))
+            || is(Slip::WeatherAlways)
+            || (is(Slip::WeatherWindPauschal) && pairing == Pairing::WindPauschal)
+            || (is(Slip::WeatherOtherSpitz) && pairing == Pairing::OtherSpitz);
+        test(!needs_irradiance || reader.irradiance(weather), 9)?;
+        let needs_plan = (pairing == Pairing::OtherSpitz && !is(Slip::PlanUntested)) || is(Slip::PlanAlways);
+        test(!needs_plan || reader.power(reader.field(one, 20)), 9)?;
+        let months = match slip {
+            Slip::MonthMore => 1..=255,
+            Slip::MonthZero => 0..=12,
+            Slip::MonthEdge => 1..=11,
+            Slip::TimeAtZero if slipped_factor(slip, one[1], one[2]) == 0 => 0..=255,
+            _ => 1..=12,
+        };
+        test(!(day || is(Slip::MonthAlways)) || months.contains(&one[1]), 9)?;
+        let latest = if is(Slip::TimeEdge) { 94 } else { 95 };
+        test(!(day || is(Slip::MonthAlways)) || one[2] <= latest || is(Slip::TimeUntested), 9)?;
     }
+    eight?;
+    twelve?;
 
     // Amounts.
     let mut amounts: Vec<i64> = Vec::new();
+    let under = match pairing {
+        Pairing::WindSpitz | Pairing::SolarSpitz => b,
+        Pairing::SolarPauschal => 10_000,
+        _ => 1,
+    };
+    let largest = curve.iter().map(|&(_, power)| power).max().unwrap_or(0);
     let mut r = 0i128;
+    if is(Slip::CarryAcross) && carry.1 == 4 * under {
+        r = carry.0;
+    }
+    let first = r;
+    let whole = |sum: i128| match slip {
+        Slip::SignedRounding if positive => -((-sum).div_euclid(4 * under)),
+        Slip::RoundUp => -((-sum).div_euclid(4 * under)),
+        Slip::RoundNearest => (2 * sum + 4 * under).div_euclid(8 * under),
+        _ => sum.div_euclid(4 * under),
+    };
     for one in &quarters {
-        let mut measured = field(one, 8);
+        let mut measured = reader.field(one, 8);
         if is(Slip::NegativeZero) {
             measured = measured.max(0);
         }
-        let both = execution == 3 && is(Slip::BothSidesRequested);
-        let l = match (execution == 1 || both, positive) {
-            (false, _) => measured,
-            (true, true) => measured.min(field(one, 12)),
-            (true, false) => measured.max(field(one, 12)),
+        let limit = reader.field(one, 12);
+        let requested = match execution {
+            1 => true,
+            2 => is(Slip::ToleratedRequested),
+            _ => is(Slip::BothSidesRequested),
         };
+        let larger = match slip {
+            Slip::PositiveLarger => true,
+            Slip::NegativeSmaller => false,
+            _ => !positive,
+        };
+        let mut l = match (requested, larger) {
+            _ if is(Slip::LimitTaken) && execution == 1 => limit,
+            _ if is(Slip::BothSidesLimit) && execution == 3 => limit,
+            (false, _) => measured,
+            (true, false) => measured.min(limit),
+            (true, true) => measured.max(limit),
+        };
+        if is(Slip::RaisedL) {
+            l = l.max(0);
+        }
         let ratio = |weight: i128| if is(Slip::DivideFirst) { a.div_euclid(b) * weight * b } else { a * weight };
-        let (mut t, under) = match pairing {
-            Pairing::WindSpitz if is(Slip::NoCap) => (ratio(power_at(field(one, 16))), b),
-            Pairing::WindSpitz => (ratio(power_at(field(one, 16))).min(nominal * b), b),
-            Pairing::SolarSpitz if is(Slip::SolarCap) => (ratio(field(one, 16)).min(nominal * b), b),
-            Pairing::SolarSpitz => (ratio(field(one, 16)), b),
-            Pairing::SolarPauschal if is(Slip::WinterToFive) && one[2] == 67 && !(3..=10).contains(&one[1]) => {
-                (nominal * 2_796, 10_000)
-            }
-            Pairing::SolarPauschal => (nominal * factor(one[1], one[2]), 10_000),
-            Pairing::OtherSpitz => (field(one, 20), 1),
-            _ => (a, 1),
+        let weather = reader.field(one, 16);
+        let mut t = match pairing {
+            Pairing::WindSpitz => match slip {
+                Slip::NoCap => ratio(power_at(weather)),
+                Slip::CapOnT => ratio(power_at(weather).min(nominal)),
+                Slip::CapCurve => ratio(power_at(weather)).min(largest * b),
+                _ => ratio(power_at(weather)).min(nominal * b),
+            },
+            Pairing::SolarSpitz if is(Slip::SolarCap) => ratio(weather).min(nominal * b),
+            Pairing::SolarSpitz => ratio(weather),
+            Pairing::SolarPauschal => nominal * slipped_factor(slip, one[1], one[2]),
+            Pairing::OtherSpitz => match slip {
+                Slip::CapPlan => reader.field(one, 20).min(nominal),
+                Slip::RaisedPlan => reader.field(one, 20).max(0),
+                Slip::LimitForPlan => limit,
+                _ => reader.field(one, 20),
+            },
+            Pairing::WindPauschal if is(Slip::CapWindPauschal) => a.min(nominal),
+            Pairing::OtherPauschal if is(Slip::CapOtherPauschal) => a.min(nominal),
+            Pairing::OtherPauschal if is(Slip::PlanInPauschal) => reader.field(one, 20),
+            _ if is(Slip::RaisedPauschal) => a.max(0),
+            _ => a,
         };
         if is(Slip::FloorT) {
             t = t.max(0);
         }
+        if is(Slip::WholeT) {
+            t = t.div_euclid(under) * under;
+        }
         let difference = if positive { l * under - t } else { t - l * under };
-        let mut s = r + difference.max(0);
+        let magnitude = match slip {
+            Slip::BelowZero => difference,
+            Slip::Absolute => difference.abs(),
+            _ => difference.max(0),
+        };
+        let mut s = r + magnitude;
         if is(Slip::SumWraps) {
             s = i128::from(s as i64);
         }
-        let whole = |sum: i128| {
-            if is(Slip::SignedRounding) && positive {
-                -((-sum).div_euclid(4 * under))
-            } else {
-                sum.div_euclid(4 * under)
-            }
-        };
         let amount = if is(Slip::RoundEach) { whole(s - r) } else { whole(s) - whole(r) };
-        amounts.push(if positive { -amount } else { amount } as i64);
-        r = s;
+        let minus = if positive { !is(Slip::PlusPositive) } else { is(Slip::MinusNegative) };
+        amounts.push(if minus { -amount } else { amount } as i64);
+        r = match slip {
+            Slip::RemainderLost if magnitude == 0 => s - s.rem_euclid(4 * under),
+            Slip::RemainderWhole => s - s.rem_euclid(under),
+            _ => s,
+        };
+    }
+    *carry = (r.rem_euclid(4 * under), 4 * under);
+    let mut total = amounts.iter().sum::<i64>();
+    match slip {
+        Slip::PlusTotal => total = total.abs(),
+        Slip::TotalNearest => {
+            let nearest = (2 * (r - first) + 4 * under).div_euclid(8 * under) as i64;
+            total = if positive { -nearest } else { nearest };
+        }
+        _ => {}
     }
 
     let write = |list: &mut [u8]| {
@@ -421,54 +1101,108 @@ fn settle(slip: Slip, archive: &[u8], p: u64, k: u64, list: &mut [u8], result: &
             place.copy_from_slice(&bytes[..place.len()]);
         }
     };
-    test(places >= amounts.len(), 13)?;
+    test(places >= amounts.len() || is(Slip::ListUntested), 13)?;
+    test(places == amounts.len() || !is(Slip::LongerList), 13)?;
     if is(Slip::ListWritten) {
         write(list);
     }
     test(result.len() == 24 || (is(Slip::ResultLonger) && result.len() > 24), 13)?;
     write(list);
+    if is(Slip::LaterZeroed) {
+        list[8 * amounts.len()..].fill(0);
+    }
     result[0..8].copy_from_slice(&(amounts.len() as u64).to_le_bytes());
-    result[8..16].copy_from_slice(&amounts.iter().sum::<i64>().to_le_bytes());
+    result[8..16].copy_from_slice(&total.to_le_bytes());
     result[16..24].copy_from_slice(&links.to_le_bytes());
     Ok(())
 }
 
 /// Append with one slip.
 pub fn append(slip: Slip, archive: &mut [u8], owner: u64, new: &[u8]) -> Refusal {
-    match append_place(slip, archive, owner, new) {
-        Err(number) => number,
-        Ok((used, holder, at)) => {
-            let place = used as usize * RECORD;
-            let end = if slip == Slip::KeptBytes { 24 } else { RECORD };
-            archive[place..place + end].copy_from_slice(&new[..end]);
-            let last_link = holder as usize * RECORD + at;
-            archive[last_link..last_link + 4].copy_from_slice(&(used as u32).to_le_bytes());
-            archive[4..8].copy_from_slice(&(used as u32 + 1).to_le_bytes());
-            0
-        }
+    let is = |other: Slip| slip == other;
+    let mut new = new.to_vec();
+    if (is(Slip::LongRecord) && new.len() > RECORD) || (is(Slip::ShortRecord) && new.len() < RECORD) {
+        new.resize(RECORD, 0);
     }
+    let (used, holder, at) = match append_place(slip, archive, owner, &new) {
+        Err(number) => return number,
+        Ok(found) => found,
+    };
+    let place = used as usize * RECORD;
+    if place == archive.len() {
+        return 0;
+    }
+    let last_link = holder as usize * RECORD + at;
+    if is(Slip::AtFront) {
+        let before = record(archive, holder)[at..at + 4].to_vec();
+        new[4..8].copy_from_slice(&before);
+    }
+    let end = if is(Slip::KeptBytes) { 24 } else { RECORD };
+    archive[place..place + end].copy_from_slice(&new[..end]);
+    if is(Slip::UnusedZeroed) {
+        archive[place + RECORD..].fill(0);
+    }
+    if !is(Slip::LinkKept) {
+        archive[last_link..last_link + 4].copy_from_slice(&(used as u32).to_le_bytes());
+    }
+    if !is(Slip::UsedKept) {
+        archive[4..8].copy_from_slice(&(used as u32 + 1).to_le_bytes());
+    }
+    0
 }
 
 fn append_place(slip: Slip, archive: &[u8], owner: u64, new: &[u8]) -> Result<(u64, u64, usize), Refusal> {
     let is = |other: Slip| slip == other;
     let owner = if is(Slip::NarrowOwner) { owner & 0xffff_ffff } else { owner };
-    let used = used(archive)?;
-    let full = used as usize == archive.len() / RECORD;
-    test(new.len() == RECORD && (1..=5).contains(&new[0]), 14)?;
+    let used = head(slip, archive)?;
+    let all = (archive.len() / RECORD) as u64;
+    let full = used == all || (is(Slip::FullOneLess) && used + 1 == all);
+    if is(Slip::FullAtOnce) {
+        test(!full, 16)?;
+    }
+    if is(Slip::OwnerFirst) {
+        test(owner < used, 15)?;
+    }
+    test(new.len() == RECORD, 14)?;
     let kind = new[0];
-    test(new[4..8] == [0; 4], 14)?;
-    test(!(kind == PLANT || kind == MEASURE || is(Slip::LinksInAll)) || new[8..16] == [0; 8], 14)?;
+    let known = (1..=5).contains(&kind);
+    test(known, if is(Slip::KindMore) { 15 } else { 14 })?;
+    test(is(Slip::NextUntested) || new[4..8] == [0; 4], 14)?;
+    let end = match kind {
+        PLANT if is(Slip::PlantLinksUntested) => 8,
+        MEASURE if is(Slip::MeasureLinksUntested) => 8,
+        PLANT | MEASURE if is(Slip::SecondUntested) => 12,
+        PLANT | MEASURE if is(Slip::MoreTested) => 20,
+        PLANT | MEASURE => 16,
+        _ if is(Slip::LinksInAll) => 16,
+        _ => 8,
+    };
+    test(new[8..end].iter().all(|&byte| byte == 0), 14)?;
+    if is(Slip::AppendRanges) {
+        test(kind != QUARTER || (1..=12).contains(&new[1]), 9)?;
+    }
     if is(Slip::FullBeforeOwner) {
         test(!full, 16)?;
     }
-    test(owner < used, 15)?;
+    if is(Slip::WalkBeforeOwner) {
+        chain(archive, used, 0, FIRST, PLANT)?;
+    }
+    test(owner < used || (is(Slip::OwnerUnused) && owner < all), 15)?;
     let found = record(archive, owner);
     let right = match kind {
-        PLANT => owner == 0 || (is(Slip::HeadByText) && &found[..4] == b"AARB"),
-        POINT | MEASURE => owner > 0 && found[0] == PLANT,
-        _ => owner > 0 && found[0] == MEASURE,
+        PLANT => {
+            owner == 0
+                || (is(Slip::HeadByText) && &found[..4] == b"AARB")
+                || (is(Slip::PlantAnywhere) && found[0] == PLANT)
+        }
+        POINT => owner > 0 && (found[0] == PLANT || (is(Slip::PointUnderMeasure) && found[0] == MEASURE)),
+        MEASURE => owner > 0 && found[0] == PLANT,
+        _ => owner > 0 && (found[0] == MEASURE || (is(Slip::OwnerKind) && found[0] == PLANT)),
     };
     test(right, 15)?;
+    if is(Slip::AppendTechnology) {
+        test(kind != POINT || (found[1], found[2]) == (1, 1), 15)?;
+    }
     if is(Slip::ReachedOwner) && owner != 0 {
         let named = (0..owner).any(|number| {
             let holder = record(archive, number);
@@ -482,6 +1216,7 @@ fn append_place(slip: Slip, archive: &[u8], owner: u64, new: &[u8]) -> Result<(u
         test(!full, 16)?;
     }
     let (first, other) = match kind {
+        _ if is(Slip::OtherLink) => (FIRST, SECOND),
         PLANT | POINT | BEFORE => (FIRST, SECOND),
         _ => (SECOND, FIRST),
     };
@@ -497,10 +1232,17 @@ fn append_place(slip: Slip, archive: &[u8], owner: u64, new: &[u8]) -> Result<(u
     if is(Slip::OwnChain) && owner != 0 {
         chain(archive, used, owner, NEXT, found[0])?;
     }
-    let numbers = chain(archive, used, owner, first, kind)?;
-    test(!full, 16)?;
+    let reader = Reader { archive, used, slip };
+    let numbers = match reader.chain(owner, first, kind, u64::MAX) {
+        Err(_) if is(Slip::AppendWalk) => Vec::new(),
+        found => found?,
+    };
+    if is(Slip::AppendCount) {
+        test(kind != BEFORE || numbers.len() < 96, 8)?;
+    }
+    test(!full || is(Slip::FullUntested), 16)?;
     Ok(match numbers.last() {
-        Some(&last) if !is(Slip::FirstLink) => (used, last, NEXT),
+        Some(&last) if !is(Slip::FirstLink) && !is(Slip::AtFront) => (used, last, NEXT),
         _ => (used, owner, first),
     })
 }
@@ -515,8 +1257,9 @@ pub fn audit(slip: Slip, archive: &[u8]) -> Refusal {
 
 fn audited(slip: Slip, archive: &[u8]) -> Result<(), Refusal> {
     let is = |other: Slip| slip == other;
-    let used = used(archive)?;
+    let used = head(slip, archive)?;
     let all = (archive.len() / RECORD) as u64;
+    let reader = Reader { archive, used, slip };
     let known = |number: u64| test((1..=5).contains(&record(archive, number)[0]), 3);
     if is(Slip::KindsFirst) {
         (1..used).try_for_each(known)?;
@@ -524,103 +1267,203 @@ fn audited(slip: Slip, archive: &[u8]) -> Result<(), Refusal> {
     if is(Slip::UnusedAudited) {
         (used..all).try_for_each(known)?;
     }
-    let mut named = vec![0u32; used as usize];
-    for number in 0..used {
+    let mut named = vec![0u32; used.max(1) as usize + 1];
+    let mut order: Vec<u64> = (0..used).collect();
+    if is(Slip::HeadLast) && !order.is_empty() {
+        order.rotate_left(1);
+    }
+    for number in order {
         let holder = record(archive, number);
         let kind = holder[0];
-        let links: &[(usize, u8)] = if number == 0 {
-            &[(FIRST, PLANT)]
-        } else {
-            known(number)?;
-            match kind {
-                PLANT if is(Slip::NeededOnly) && (holder[1], holder[2]) != (1, 1) => {
-                    &[(NEXT, PLANT), (SECOND, MEASURE)]
-                }
-                PLANT => &[(NEXT, PLANT), (FIRST, POINT), (SECOND, MEASURE)],
-                POINT => &[(NEXT, POINT)],
-                MEASURE => &[(NEXT, MEASURE), (FIRST, BEFORE), (SECOND, QUARTER)],
-                BEFORE => &[(NEXT, BEFORE)],
-                _ => &[(NEXT, QUARTER)],
-            }
-        };
         let orphan = number > 0 && named[number as usize] == 0;
-        for &(at, to_kind) in links {
+        if is(Slip::OrphanAtOnce) {
+            test(!orphan, 17)?;
+        }
+        let mut links: Vec<(usize, u8)> = match kind {
+            _ if number == 0 => vec![(FIRST, PLANT)],
+            PLANT if is(Slip::NeededOnly) && (holder[1], holder[2]) != (1, 1) => vec![(NEXT, PLANT), (SECOND, MEASURE)],
+            PLANT => vec![(NEXT, PLANT), (FIRST, POINT), (SECOND, MEASURE)],
+            MEASURE => vec![(NEXT, MEASURE), (FIRST, BEFORE), (SECOND, QUARTER)],
+            _ if is(Slip::BothLinks) => vec![(NEXT, kind), (FIRST, kind), (SECOND, kind)],
+            _ => vec![(NEXT, kind)],
+        };
+        if number > 0 && !is(Slip::UnknownKinds) {
+            known(number)?;
+        }
+        if is(Slip::LinksBackward) {
+            links.reverse();
+        }
+        if is(Slip::ReachedOnly) && orphan {
+            links.clear();
+        }
+        for &(at, to_kind) in &links {
             let to = link(holder, at);
-            if to != 0 {
-                follow(archive, used, number, to, to_kind)?;
-                if !(is(Slip::OrphansIgnored) && orphan) {
-                    named[to as usize] += 1;
+            if to == 0 {
+                continue;
+            }
+            let free = is(Slip::NextKindFree) && at == NEXT;
+            if !(is(Slip::HeadUntested) && number == 0) {
+                reader.above(number, number, to)?;
+                if !free {
+                    reader.kind(to, to_kind)?;
                 }
-                if is(Slip::TwiceAtOnce) {
-                    test(named[to as usize] == 1, 17)?;
-                }
+            }
+            let counts = !(is(Slip::OrphansIgnored) && orphan)
+                && !(is(Slip::HeadUncounted) && number == 0)
+                && !(is(Slip::SharedNext) && at == NEXT);
+            if counts && (to as usize) < named.len() {
+                named[to as usize] += 1;
+            }
+            if is(Slip::TwiceAtOnce) {
+                test(named[to as usize] == 1, 17)?;
             }
         }
     }
-    if is(Slip::OrphansIgnored) {
+    let mut others = named[1..used.max(1) as usize].iter();
+    let good = match slip {
         // Orphans are passed over, and what they name too.
-        return test(named.iter().all(|&links| links <= 1), 17);
-    }
-    test(named[1..].iter().all(|&links| links == 1), 17)
+        Slip::OrphansIgnored | Slip::OrphansAllowed => others.all(|&links| links <= 1),
+        Slip::TwiceAllowed => others.all(|&links| links >= 1),
+        _ => others.all(|&links| links == 1),
+    };
+    test(good, 17)
 }
 
-/// Show with one slip, as the place of the part; the archive's length for the empty one.
+/// Show with one slip, as the byte at which the part starts; the archive's length for the empty one.
 pub fn show_place(slip: Slip, archive: &[u8], number: u64) -> u64 {
     let number = if slip == Slip::NarrowNumber { number & 0xffff_ffff } else { number };
     let all = (archive.len() / RECORD) as u64;
-    match used(archive) {
-        Ok(used) if number < if slip == Slip::UnusedShown { all } else { used } => number * RECORD as u64,
-        _ => archive.len() as u64,
+    let used = match head(slip, archive) {
+        Ok(used) => used,
+        Err(_) if slip == Slip::ShownOnOne => all,
+        Err(_) => 0,
+    };
+    let end = match slip {
+        Slip::UnusedShown if used > 0 => all,
+        Slip::ShownAtUsed if used > 0 => all.min(used + 1),
+        _ => used,
+    };
+    let hidden = (slip == Slip::HeadHidden && number == 0)
+        || (slip == Slip::KnownKinds && (1..end).contains(&number) && !(1..=5).contains(&record(archive, number)[0]));
+    if number < end && !hidden {
+        number * RECORD as u64
+    } else {
+        archive.len() as u64
     }
 }
 
 /// Fresh with one slip.
 pub fn fresh(slip: Slip, archive: &mut [u8]) -> Refusal {
-    if slip == Slip::TextNeeded && used(archive).is_err() {
+    let records = archive.len() / RECORD;
+    let whole = archive.len() % RECORD == 0;
+    let allowed = match slip {
+        Slip::TextNeeded => head(slip, archive).is_ok(),
+        Slip::FreshRagged => records >= 1 && records <= MOST_RECORDS,
+        Slip::FreshLonger => whole && (1..=MOST_RECORDS + 1).contains(&records),
+        _ => whole && (1..=MOST_RECORDS).contains(&records),
+    };
+    if !allowed {
         return 1;
     }
-    crate::fresh(archive)
+    if slip != Slip::FreshKeeps {
+        archive.fill(0);
+    }
+    archive[..4].copy_from_slice(b"AARB");
+    let used = match slip {
+        Slip::FreshNone => 0,
+        Slip::FreshAll => records as u32,
+        _ => 1,
+    };
+    archive[4..8].copy_from_slice(&used.to_le_bytes());
+    0
 }
 
-/// The program's lines with one slip.
+/// The program's lines with one slip, of the program or of settle.
 pub fn program(slip: Slip, input: &[u8]) -> Vec<u8> {
     use std::io::Write;
+    let is = |other: Slip| slip == other;
     let mut out = Vec::new();
     let mut input = input;
-    if input.len() > 65_536 {
-        if slip != Slip::LongCut {
+    let most = if is(Slip::InputLess) { 65_535 } else { 65_536 };
+    if input.len() > most && !is(Slip::InputMore) {
+        if !is(Slip::LongCut) {
             return b"E 0 0 1\n".to_vec();
         }
         input = &input[..65_536];
     }
-    let used = match used(input) {
+    let used = match head(slip, input) {
         Ok(used) => used,
         Err(_) => return b"E 0 0 1\n".to_vec(),
     };
+    if is(Slip::NoPlantLine) && link(input, FIRST) == 0 {
+        return b"E 0 0 1\n".to_vec();
+    }
+    let mut list = vec![0; 8 * (used as usize + 1)];
+    let mut result = [0; 24];
+    let mut carry = (0, 1);
     let (mut p, mut k, mut stored) = (1, 1, 0);
-    loop {
-        match crate::settle::settled(input, p, k) {
-            Ok(settled) => {
-                let _ = writeln!(out, "M {p} {k} {} {} {}", settled.amounts.len(), settled.total(), settled.links);
-                for (place, amount) in settled.amounts.iter().enumerate() {
+    // A wrong reading can lead on for ever.
+    while p + k <= used + 2 {
+        match carried(slip, input, p, k, &mut list, &mut result, &mut carry) {
+            0 => {
+                let number = |at: usize| i64::from_le_bytes(result[at..at + 8].try_into().unwrap());
+                let _ = writeln!(out, "M {p} {k} {} {} {}", number(0), number(8), number(16));
+                for (place, amount) in list.chunks(8).take(number(0) as usize).enumerate() {
+                    let amount = i64::from_le_bytes(amount.try_into().unwrap());
                     stored += 1;
-                    if slip != Slip::FixedStore || stored <= 2_048 {
-                        let _ = writeln!(out, "Q {} {amount}", place + 1);
+                    let place = if is(Slip::QuarterFromZero) { place } else { place + 1 };
+                    if (is(Slip::FixedStore) && stored > 2_048) || (is(Slip::ZeroLeftOut) && amount == 0) {
+                        continue;
                     }
+                    let minus = is(Slip::MinusZero) && amount == 0 && positive(input, used, p, k);
+                    let _ = writeln!(out, "Q {place} {}{amount}", if minus { "-" } else { "" });
                 }
-                k += 1;
+                if is(Slip::FirstMeasure) {
+                    (p, k) = (p + 1, 1);
+                } else {
+                    k += 1;
+                }
             }
-            Err(4) => return out,
-            Err(5) => (p, k) = (p + 1, 1),
-            Err(number) => {
-                let _ = writeln!(out, "E {p} {k} {number}");
-                let found = place(input, used, 0, FIRST, PLANT, p, 4)
-                    .and_then(|plant| place(input, used, plant, SECOND, MEASURE, k, 5));
-                let below = found.is_ok();
-                if (number == 2 || number == 3) && !(slip == Slip::LowerGoesOn && below) {
+            4 => {
+                if is(Slip::FourLine) {
+                    let _ = writeln!(out, "E {p} {k} 4");
+                }
+                return out;
+            }
+            5 => {
+                if is(Slip::FiveLine) {
+                    let _ = writeln!(out, "E {p} {k} 5");
+                }
+                if is(Slip::FiveEnds) || is(Slip::FirstPlant) {
                     return out;
                 }
-                if slip == Slip::SixSkips && number == 6 {
+                p += 1;
+                if !is(Slip::MeasureKept) {
+                    k = 1;
+                }
+            }
+            number => {
+                let plant = place(input, used, 0, FIRST, PLANT, p, 4);
+                let below = plant.and_then(|plant| place(input, used, plant, SECOND, MEASURE, k, 5)).is_ok();
+                let shown = if is(Slip::BrokenPlant) && plant.is_err() { 0 } else { k };
+                let _ = writeln!(out, "E {p} {shown} {number}");
+                let goes_on = match number {
+                    2 if is(Slip::TwoGoesOn) => true,
+                    2 if is(Slip::TwoSkips) => below,
+                    3 if is(Slip::ThreeGoesOn) => true,
+                    2 | 3 => is(Slip::LowerGoesOn) && below,
+                    _ => !is(Slip::OtherEnds),
+                };
+                if !goes_on {
+                    return out;
+                }
+                let skips = match number {
+                    2 => is(Slip::TwoSkips),
+                    6 => is(Slip::SixSkips),
+                    7 => is(Slip::SevenSkips),
+                    _ => false,
+                };
+                if skips {
                     (p, k) = (p + 1, 1);
                 } else {
                     k += 1;
@@ -628,4 +1471,11 @@ pub fn program(slip: Slip, input: &[u8]) -> Vec<u8> {
             }
         }
     }
+    out
+}
+
+fn positive(archive: &[u8], used: u64, p: u64, k: u64) -> bool {
+    place(archive, used, 0, FIRST, PLANT, p, 4)
+        .and_then(|plant| place(archive, used, plant, SECOND, MEASURE, k, 5))
+        .map_or(false, |measure| record(archive, measure)[1] == 1)
 }

@@ -5,6 +5,7 @@ use crate::builder::*;
 use crate::generate::{self, Call};
 use crate::rng::Rng;
 use crate::settle::{curve_power, factor};
+use crate::sha256::sha256;
 use crate::slips::{self, Of, Slip, SLIPS};
 use crate::{append, audit, fast, fresh, host_settle, program, settle, show, Answer};
 
@@ -285,6 +286,17 @@ fn largest() {
     let answer = settle(&filed.bytes, 1, 1, &mut list);
     assert_eq!((answer.number, answer.total, answer.links), (0, 1_488_000_000_000, 2 + 2 + 4 + 2_976));
     assert_eq!(answer, fast::settle(&filed.bytes, 1, 1, &mut list));
+}
+
+/// Digests given with the standard.
+#[test]
+fn digests() {
+    let empty = "e3b0c44298fc1c149afbf4c8996fb92427ae41e4649b934ca495991b7852b855";
+    let letters = "ba7816bf8f01cfea414140de5dae2223b00361a396177a9cb410ff61f20015ad";
+    let two_blocks = "248d6a61d20638b8e5c026930c3e6039a33ce45964ff2167f6ecedd419db06c1";
+    assert_eq!(sha256(b""), empty);
+    assert_eq!(sha256(b"abc"), letters);
+    assert_eq!(sha256(b"abcdbcdecdefdefgefghfghighijhijkijkljklmklmnlmnomnopnopq"), two_blocks);
 }
 
 /// One generated call on plain, `fast` and the module of slips without a slip.

@@ -83,8 +83,8 @@ unused n = replicate (32 * n) 0
 -- a as 01 prints it, with one before-quarter: 1 plant, 2 measure, 3 before-quarter, 4-6 quarters
 unfoldable pub caseA : List ℕ
 caseA =
-    head 7 1 ++ plant 3 2 0 0 2 2000000 ++ measure 2 2 0 3 4 ++ before 1 0 800000 0
-    ++ quarter 7 40 5 500001 0 0 0 ++ quarter 7 41 6 500001 0 0 0 ++ quarter 7 42 0 500002 0 0 0
+    head 7 1 ++ plant 3 2 0 0 2 1000000 ++ measure 2 2 0 3 4 ++ before 1 0 800000 0
+    ++ quarter 7 40 5 500001 0 0 0 ++ quarter 7 40 6 500001 0 0 0 ++ quarter 7 40 0 500002 0 0 0
 
 -- wind Spitz, Pn 2,000,000, curve (0, 0), (200, 2,000,000), four before-quarters at speed 100: what three of them measure, what the
 -- fourth does, then measured power and speed of the quarter. 1 plant, 2-3 curve points, 4 measure, 5-8 before-quarters, 9 quarter
