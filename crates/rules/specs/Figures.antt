@@ -382,12 +382,12 @@ ascii (c ∷ₛ s) = code c ∷ ascii s
 -- case a, record by record
 unfoldable pub filingsA : List Filing
 filingsA =
-    record { owner = 0; bytes = plant 3 2 0 0 0 2000000 }
+    record { owner = 0; bytes = plant 3 2 0 0 0 1000000 }
     ∷ record { owner = 1; bytes = measure 2 2 0 0 0 }
     ∷ record { owner = 2; bytes = before 1 0 800000 0 }
     ∷ record { owner = 2; bytes = quarter 7 40 0 500001 0 0 0 }
-    ∷ record { owner = 2; bytes = quarter 7 41 0 500001 0 0 0 }
-    ∷ record { owner = 2; bytes = quarter 7 42 0 500002 0 0 0 }
+    ∷ record { owner = 2; bytes = quarter 7 40 0 500001 0 0 0 }
+    ∷ record { owner = 2; bytes = quarter 7 40 0 500002 0 0 0 }
     ∷ []
 
 -- what the C entry leaves: its number, the list's bytes, the result part
@@ -404,7 +404,7 @@ calls =
     ∷ (numberOf (fresh (replicate 33 9)) ∷ archiveAfter (fresh (replicate 33 9)) (replicate 33 9), 1 ∷ replicate 33 9)
     -- case a filed into a fresh archive is case a, byte for byte, and its quarters are read back as filed
     ∷ (archiveAfter (fresh (replicate 224 9) >>= λ start. fileAll filingsA start) [], caseA)
-    ∷ (after (readBack caseA 7 2 quarterKind) (flatMap (λ e. e .number ∷ e .bytes)) [], 4 ∷ quarter 7 40 0 500001 0 0 0 ++ 5 ∷ quarter 7 41 0 500001 0 0 0 ++ 6 ∷ quarter 7 42 0 500002 0 0 0)
+    ∷ (after (readBack caseA 7 2 quarterKind) (flatMap (λ e. e .number ∷ e .bytes)) [], 4 ∷ quarter 7 40 0 500001 0 0 0 ++ 5 ∷ quarter 7 40 0 500001 0 0 0 ++ 6 ∷ quarter 7 40 0 500002 0 0 0)
     -- append: the record as number U, the last link of its chain, U; behind three others, and as the first of its chain
     ∷ (archiveAfter (append (caseA ++ replicate 32 9) 2 newQuarter) [], withWord (withWord caseA 6 4 7) 0 4 8 ++ newQuarter)
     ∷ (archiveAfter (append (caseA ++ replicate 32 9) 1 (point 0 30 0)) [], withWord (withWord caseA 1 8 7) 0 4 8 ++ point 0 30 0)
@@ -414,11 +414,11 @@ calls =
     ∷ (numberOf (append (caseA ++ unused 1) 2 (withWord newQuarter 0 4 1)) ∷ [], 14 ∷ [])
     ∷ (numberOf (append (caseA ++ unused 1) 1 (measure 2 2 0 0 3)) ∷ [], 14 ∷ [])
     ∷ (numberOf (append (caseA ++ unused 1) 2 (take 31 newQuarter)) ∷ [], 14 ∷ [])
-    ∷ (numberOf (append (caseA ++ unused 1) 1 (plant 3 2 0 0 0 2000000)) ∷ [], 15 ∷ [])
+    ∷ (numberOf (append (caseA ++ unused 1) 1 (plant 3 2 0 0 0 1000000)) ∷ [], 15 ∷ [])
     ∷ (numberOf (append (caseA ++ unused 1) 0 newQuarter) ∷ [], 15 ∷ [])
     -- show: a record below U, also if a link of it is broken; no other, and none on 1
     ∷ (shown caseA 4, 5 ∷ 7 ∷ 40 ∷ 0 ∷ 5 ∷ 0 ∷ 0 ∷ 0 ∷ 0x21 ∷ 0xa1 ∷ 0x07 ∷ replicate 21 0)
-    ∷ (shown (withWord (caseA ++ unused 1) 6 4 6) 6, quarter 7 42 6 500002 0 0 0)
+    ∷ (shown (withWord (caseA ++ unused 1) 6 4 6) 6, quarter 7 40 6 500002 0 0 0)
     ∷ (shown (caseA ++ unused 1) 7 ++ shown (withWord caseA 0 4 8) 0, [])
     -- audit: sound with and without unused records, and with no plant; 17 for a record named twice
     ∷ (numberOf (audit caseA) ∷ numberOf (audit (caseA ++ unused 1)) ∷ numberOf (audit (head 1 0)) ∷ [], 0 ∷ 0 ∷ 0 ∷ [])
