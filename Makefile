@@ -33,7 +33,7 @@ test:
 	.ci/run
 
 program:
-	.ci/check sandegmur
+	.ci/check program
 	rt staticlib program
 	$(CC) $(CFLAGS) c/main.c target/staticlib/libprogram.a -o $(PROGRAM)
 
