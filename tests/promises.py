@@ -51,8 +51,11 @@ PHRASES = (
     "64 KiB",
     "65,536 bytes and one more",
     "1,000,000 calls of seed 2 and 800 inputs of seed 7",
-    "code of landing 4",
-    "by hand seeds 2 and 3",
+    "code of landing 5",
+    "the pages of landing 5",
+    "parts of 1,000 bytes",
+    "a status of 0 or 1",
+    "the status is 1 exactly",
     "x86-64 Linux",
     "length 0",
 )
@@ -193,7 +196,8 @@ class Tree:
             (r"(NUMBER) stored calls", self.text("crates/cases/stdout").count("\n")),
             (r"in the gate seed (NUMBER),", seed),
             (r"(NUMBER) different archives", part("Makefile", r"^ARCHIVES \?= (\d+)$")),
-            (r"(NUMBER) bytes of room", part("crates/sandegmur/src/main.rt", r"^fn fill\(.*?(\d+) ≤ length")),
+            (r"(NUMBER) bytes of room", part("crates/program/specs/Due.antt", r"^pub record Room .*?(\d+) ≤ length")),
+            (r"list of (NUMBER) places", part("crates/program/specs/Due.antt", r"^pub record Room .*?≡ (\d+)")),
         ]
 
         def written(right):

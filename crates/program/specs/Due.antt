@@ -23,8 +23,17 @@ pub record MeasureDue (archive : List ℕ) (c : Cursor) (list : List ℤ) (out :
   pub unfinished : c .done ≡ false
   pub room : c .end + 108 ≤ length out
 
+-- a list that is long enough for every measure, and room for a line
+pub record Room (list : List ℤ) (out : List ℕ) : Type 0 where
+  pub places : length list ≡ 2976
+  pub line : 108 ≤ length out
+
 -- all lines from the cursor on, behind so many bytes handed over
 pub record RestDue (archive : List ℕ) (c : Cursor) (count : ℕ) (list : List ℤ) (out : List ℕ) : Type 0 where
   pub fits : Fits archive c list
   pub left : Left archive count (textOfAll (rest archive c list))
   pub room : 108 ≤ length out
+
+-- 1 where a read or a write failed, else 0
+abbrev pub ExitStatus : ℕ → Type 0
+ExitStatus n = n ≤ 1

@@ -1,11 +1,10 @@
 // The program's run (document 01, 'Calls on the archive'): reads an archive of at most 65,536 bytes from standard input and settles all
 // measures in order.
-ghost use mathlib.Core.Path.{_≡_};
 ghost use Prim.Native.Nat.{_≤_};
 ghost use lib.ListN.{length};
 ghost use Rattle.report.specs.Cursors.{Fits, Advances, Fills};
 ghost use Rattle.output.specs.Handing.{HandsAll};
-ghost use Rattle.program.specs.Due.{LineDue, MeasureDue, RestDue};
+ghost use Rattle.program.specs.Due.{LineDue, MeasureDue, Room, RestDue, ExitStatus};
 use output::Handed;
 use output::Output;
 use report::Cursor;
@@ -76,7 +75,7 @@ fn print(archive: &[u8], first: Cursor, start: Output, list: &mut [i64], out: &m
 
 // The whole output of an input: its first lines, then the others.
 fn give_output(input: &[u8], list: &mut [i64], out: &mut [u8]) -> Handed
-    requires { ⌜ (length (now list) ≡ 2976) × (108 ≤ length (now out)) ⌝ }
+    requires { ⌜ Room (now list) (now out) ⌝ }
     ensures { λ r. ⌜ HandsAll (now (input .entry)) r ⌝ }
 {
     let first = report::begin(input, out);
@@ -89,7 +88,7 @@ fn give_output(input: &[u8], list: &mut [i64], out: &mut [u8]) -> Handed
 
 // 0 if an input of so many bytes was read to its end or is too long, 1 if a read failed, which standard error is told.
 fn read_status(n: usize) -> u32
-    ensures { λ r. ⌜ r ≤ 1 ⌝ }
+    ensures { λ r. ⌜ ExitStatus r ⌝ }
 {
     if 65536 < n {
         return 0;
@@ -109,7 +108,7 @@ fn read_status(n: usize) -> u32
 // or a write failed, which standard error is told.
 #[no_mangle]
 pub extern "C" fn sandegmur_run() -> u32
-    ensures { λ r. ⌜ r ≤ 1 ⌝ }
+    ensures { λ r. ⌜ ExitStatus r ⌝ }
 {
     let mut input = [0u8; 65537];
     let mut list = [0i64; 2976];

@@ -21,7 +21,7 @@ slice-reshare-prefix-hand c = search needs
 slice-aggregate-hand : tie.Need-slice-aggregate-hand
 slice-aggregate-hand c =
     let b = c .before .before .before .before .begin in
-    sym (length-take-le (b .result .end) _ (omega (arith, b .ensures .within, b .kept .1 .0, c .before .before .before .before .before .before .before .before .pre .1)))
+    sym (length-take-le (b .result .end) _ (omega (arith, b .ensures .within, b .kept .1 .0, c .before .before .before .before .before .before .before .before .pre .line)))
 
 hand-requires : tie.Need-hand-requires
 hand-requires c κs =
@@ -47,7 +47,7 @@ print-requires c κs =
     let h = c .before .before .before .before .before in
     let b = h .before .before .before .before .before .begin in
     let s = h .before .before .before .before .before .before .before .before .before in
-    begun (b .ensures) (s .pre .0) (omega (arith, b .kept .1 .0, s .pre .1)) (h .before .before .start .ensures) _ refl (h .hand .result) _ (h .hand .ensures) (c .before .before .before .answer .given .1)
+    begun (b .ensures) (s .pre .places) (omega (arith, b .kept .1 .0, s .pre .line)) (h .before .before .start .ensures) _ refl (h .hand .result) _ (h .hand .ensures) (c .before .before .before .answer .given .1)
 
 same-length-2 : tie.Need-same-length-2
 same-length-2 c = search needs
