@@ -18,7 +18,7 @@ build_and_run() {
   done
   "$lib/host-examples-$4" | cmp - "$expected"
   "$lib/host-tests-$4"
-  for archive in examples/*.archive; do
+  for archive in $(find examples -name '*.archive' -size -65537c); do
     "$lib/settle-examples-$4" "$archive" | cmp - "${archive%.archive}.expected"
   done
   "$lib/settle-examples-$4" "$long" | cmp - "$long.expected"

@@ -114,7 +114,7 @@ impl Case {
                 fs::write(&input, archive)?;
                 let run = Command::new(program).stdin(File::open(&input)?).output()?;
                 if !run.status.success() || !run.stderr.is_empty() {
-                    return Err(io::Error::other("the program failed or wrote to standard error"));
+                    return Err(io::Error::new(io::ErrorKind::Other, "the program failed or wrote to standard error"));
                 }
                 let text = String::from_utf8_lossy(&run.stdout);
                 let number = |line: &str| match line.as_bytes()[0] {
