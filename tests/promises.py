@@ -10,14 +10,14 @@ What stands between backticks on the page is one of these:
     `rules/proofs/ReadBack.antt`        a path of the repository; `crates/` in front may be left out, `*` is any name
     ..: `read-again`, `files`           names behind a file, each declared in it; a remark in brackets may stand between
     `settle::settle(archive, p)`        a function of a crate, with its parameters where they are given
-    `settle/full_list_refused`          a must-fail edit of a crate
+    `settle/full_list_refused`          a wrong program or rule of a crate's must-fail edits
     `make test`                         a target of the Makefile
     `tests/promises.py --self-test`     an option that the file knows
     one of WORDS
 
 A number is a count that is taken anew (Tree.counts) or stands in one of PHRASES. In the table of demands a statement stands with its
-demand's number and with a theorem whose type it is; in the table of calls a row has what the function's contract says, the edits are of
-crates that it stands on, and no entry for C is missing. The table of edits is the one that --write-table makes."""
+demand's number and with a theorem whose type it is; in the table of calls a row has what the function's contract says, the wrong programs
+are of crates that its functions stand on, and no entry for C is missing. The table of edits is the one that --write-table makes."""
 
 import os
 import re
@@ -26,6 +26,8 @@ from fnmatch import fnmatchcase
 from functools import cached_property
 from pathlib import Path
 from typing import NamedTuple
+
+import edits
 
 ROOT = Path(__file__).resolve().parent.parent
 PAGE = ROOT / "docs/PROMISES.md"
@@ -65,7 +67,6 @@ JOIN = re.compile(r"(?: \([^()`|]*\))?(?:[,:]|,? and)\s+")
 NUMBER = re.compile(r"(?<!\w)\d+(?:,\d{3})*")
 UNQUOTED = re.compile(r"\w+_\w+|\w+::\w+|\w+\.(?:antt|rt|rs|py|md|edit|sh|txt)\b|\w+/\w+")
 DECLARATION = re.compile(r"^(?:  )?(?:(?:pub|abbrev|unfoldable) )*(?:(?:record|data) (\S+)|([^\s:]+) :).*", re.M)
-ITEM = re.compile(r'^(?:pub )?(?:extern "C" )?(?:fn|const|struct|enum) (\w+)', re.M)
 FUNCTION = re.compile(r'^(?:pub )?(extern "C" )?fn (\w+)\(([^()]*)\)[^\n{]*(?:\{\n|\n((?:    .*\n)*)\{\n)', re.M)
 CLAUSE = re.compile(r"^    (requires|ensures) (.*?)(?=^    (?:requires|ensures) |\Z)", re.M | re.S)
 ROW = re.compile(r"^\|(?!---)(.*)\|$", re.M)
@@ -131,22 +132,16 @@ class Tree:
 
     @cached_property
     def edits(self):
-        """For each crate its edits, by what holds the text that is changed: the last of the texts, if an edit changes several."""
-        found = {}
-        for crate in self.crates:
-            groups = {}
-            for path in sorted(self.paths):
-                if m := re.fullmatch(rf"crates/{crate}/must-fail/(\w+)\.edit", path):
-                    file = re.search(r"^file: (.*)$", self.text(path), re.M)[1]
-                    if file.startswith("specs/"):
-                        holder = (0, f"definitions in `{file}`")
-                    else:
-                        source = self.text(f"crates/{crate}/{file}")
-                        at = source.index(re.findall(r"^old: (.*)$", self.text(path), re.M)[-1])
-                        item = [item for item in ITEM.finditer(source) if item.start() <= at][-1]
-                        holder = (item.start(), f"`{item[1]}`")
-                    groups.setdefault(holder, []).append(m[1])
-            found[crate] = groups
+        """For each crate its wrong programs and rules, by what holds the text that is changed: the last, if one changes several."""
+        found = {crate: {} for crate in self.crates}
+        for wrong in (wrong for edit in edits.read_edits() for wrong in edit):
+            file, _ = wrong.changes[-1]
+            item = edits.holder(wrong.crate, *wrong.changes[-1])
+            if file.startswith("specs/"):
+                holder = (0, f"definitions in `{file}`")
+            else:
+                holder = (item.start, f"`{item.name}`")
+            found[wrong.crate].setdefault(holder, []).append(wrong.label)
         return found
 
     @cached_property
@@ -156,7 +151,7 @@ class Tree:
     @cached_property
     def table(self):
         return "".join(
-            f"| `{crate}` | {holder} | {', '.join(labels)} |\n"
+            f"| `{crate}` | {holder} | {', '.join(sorted(labels))} |\n"
             for crate, groups in self.edits.items()
             for (_, holder), labels in sorted(groups.items())
         )
@@ -186,6 +181,7 @@ class Tree:
         seed = part("Makefile", r"^SEED \?= (\d+)$")
         found = [
             (r"(NUMBER) wrong programs and wrong rules", len(self.labels)),
+            (r"in (NUMBER) edits", len(edits.read_edits())),
             (r"(NUMBER) examples of the refusal table", entries("refusals")),
             (r"(NUMBER) examples of order and extent", entries("orders")),
             (r"figures a to (\w)", re.findall(r"^    -- ([a-z])\b", examples("figures"), re.M)[-1]),
@@ -214,6 +210,10 @@ class Tree:
                 found.add(name)
                 new.extend(self.crates.get(name, []))
         return found
+
+    def is_of(self, edit, function):
+        """Whether a wrong program is of the function's crate or of one below it."""
+        return edit.partition("/")[0] in self.stands_on(function.partition("::")[0])
 
 
 class Cited(NamedTuple):
@@ -306,9 +306,11 @@ def check_calls(page, tree, faults):
                 right = need == "nothing"
             if not right:
                 faults.append(f"{name} requires something else")
-            for edit in wrong.edits:
-                if edit.partition("/")[0] not in tree.stands_on(name.partition("::")[0]):
-                    faults.append(f"{name} doesn't stand on the crate of {edit}")
+            if not any(tree.is_of(edit, name) for edit in wrong.edits):
+                faults.append(f"{name}: no wrong program of a crate that it stands on")
+        for edit in wrong.edits:
+            if not any(tree.is_of(edit, name) for name in call.functions):
+                faults.append(f"{cell}: it doesn't stand on the crate of {edit}")
     for name, function in tree.functions.items():
         if function.for_c and name not in listed:
             faults.append(f"{name}: an entry for C without a row")
@@ -387,7 +389,7 @@ def main(words):
         count = f"{len(tree.labels):,} wrong programs and wrong rules"
         page = re.sub(rf"{NUMBER.pattern} wrong programs and wrong rules", count, TABLE.sub(lambda m: tree.table, page))
         PAGE.write_text(page, encoding="utf-8")
-        print(f"docs/PROMISES.md: {len(tree.labels)} edits written")
+        print(f"docs/PROMISES.md: {len(tree.labels)} wrong programs and rules written")
         return 0
     if words not in ([], ["--self-test"]):
         print(__doc__, file=sys.stderr)
@@ -396,7 +398,7 @@ def main(words):
         print("\n".join(faults), file=sys.stderr)
         return 1
     if not words:
-        print(f"docs/PROMISES.md: {len(tree.labels)} edits, and every file, name and number on the page is right")
+        print(f"docs/PROMISES.md: {len(tree.labels)} wrong programs and rules, and every file, name and number on the page is right")
         return 0
     tried, passed = {}, 0
     for kind, where, variant in broken(page):

@@ -1,0 +1,180 @@
+#!/usr/bin/env python3
+"""The wrong programs and wrong rules of crates/*/must-fail, and where the prover refuses each.
+
+    edits.py                    the edits as they are written
+    edits.py LOGS               and what the prover said of each; LOGS is the folder where rt leaves that
+    edits.py --self-test LOGS   what it said of each wrong program taken out of its log, which the check must see
+
+An edit is a list of texts that become others, and rt has the prover refuse the crate with all of them. Most of the time goes into proving
+the rest of the crate again, so one edit may hold several wrong programs:
+
+    wrong: power_low_end        the label of the wrong program that follows; without such a line it is the edit's name
+    file: src/lib.rt
+    old: ..
+    new: ..
+    refused: plant_factor       where it has to be refused, if that isn't the function whose text it changes last: another function, or
+                                a theorem, as Figures: orders-hold
+
+Of an edit with several, rt tells only that the crate isn't proved. So each of them changes the body of one function and nothing else, no
+two the body of the same: a proof reads its own function's body and the contracts of others. What the log says of a function is then about
+its own wrong program, and for each wrong program the log must have a refusal there: at a fact, and not at a name that is missing, at the
+proof's shape, or only because something else wasn't admitted."""
+
+import re
+import sys
+from functools import cache
+from pathlib import Path
+from typing import NamedTuple
+
+ROOT = Path(__file__).resolve().parent.parent
+ITEM = re.compile(r'^(?:#\[no_mangle\]\n)?(?:pub )?(?:extern "C" )?(fn|const|struct|enum) (\w+)', re.M)
+BODY = re.compile(r"^(?:.* )?\{\n(?s:.*?)^\}$", re.M)
+# What the prover says of a proof of ours, and of one that it makes itself.
+ERROR = re.compile(r"^\S*?/(?:proofs|specs)/(\S+?)(?:/Proof)?\.antt:\d+:\d+: error: `([^`]+)`: (.*(?:\n  .*)*)", re.M)
+UNPROVED = re.compile(r"^note: \S*?/(src/\w+\.rt):(\d+):\d+: it is not proved that .* \(`([^`]+)`\)$", re.M)
+PASSED_ON = re.compile(r".* was not admitted\b")
+NAME = re.compile(r".* is not in scope:")
+# What a proof is put together from: a loop's invariant and measure, and the whole.
+PARTS = re.compile(r"Inv-|μ-|\S+-spec$")
+SHAPE = re.compile(r"record `\S+`\s+has no field\b|`\S+`: module `\S+`\s+has no\b|expected type `tie\.Need-")
+
+
+class Wrong(NamedTuple):
+    crate: str
+    edit: str
+    label: str
+    changes: list
+    refused: str
+
+    def __str__(self):
+        return f"{self.crate}/{self.label}" + (f" (edit {self.edit})" if self.edit != self.label else "")
+
+
+class Holder(NamedTuple):
+    """An item of a source: where it starts, its kind and name, and whether it is a function that has a text in its body."""
+
+    start: int
+    kind: str
+    name: str
+    in_body: bool
+
+
+class Refusal(NamedTuple):
+    where: str
+    what: str
+    said: str
+
+
+@cache
+def text_of(path):
+    return path.read_text(encoding="utf-8")
+
+
+def read_edit(path):
+    """The wrong programs of an edit, in its order; a change is a file and the text in it."""
+    found, file, label, changes, refused = [], "", path.stem, [], ""
+    for line in text_of(path).splitlines() + ["wrong: "]:
+        word, _, rest = line.partition(": ")
+        if word == "wrong":
+            if changes:
+                found.append(Wrong(path.parts[-3], path.stem, label, changes, refused))
+            label, changes, refused = rest, [], ""
+        elif word == "file":
+            file = rest
+        elif word == "old":
+            changes.append((file, rest))
+        elif word == "refused":
+            refused = rest
+    return found
+
+
+def read_edits():
+    return [read_edit(path) for path in sorted(ROOT.glob("crates/*/must-fail/*.edit"))]
+
+
+def item_at(source, at):
+    """The last item of a source that starts at or before a place in it, or None."""
+    return next((item for item in reversed(list(ITEM.finditer(source))) if item.start() <= at), None)
+
+
+def holder(crate, file, text):
+    """What holds a text of a source."""
+    source = text_of(ROOT / "crates" / crate / file)
+    at = source.find(text)
+    item = item_at(source, at)
+    if not file.startswith("src/") or item is None:
+        return Holder(0, "", "", False)
+    body = BODY.search(source, item.start())
+    return Holder(item.start(), item[1], item[2], item[1] == "fn" and body.start() < at < body.end())
+
+
+def place(wrong):
+    """Where a wrong program has to be refused: a function or a file of proofs, and a theorem if one is named."""
+    where, _, what = wrong.refused.partition(": ")
+    return where or holder(wrong.crate, *wrong.changes[-1]).name, what
+
+
+def check_text(edit):
+    """What is amiss with an edit as it is written."""
+    changed = {}
+    for wrong in edit:
+        holders = {holder(wrong.crate, *change) for change in wrong.changes}
+        last = holder(wrong.crate, *wrong.changes[-1])
+        if not wrong.refused and last.kind != "fn":
+            yield f"{wrong}: no function holds its text, so it has to say where it is refused"
+        if len(edit) > 1:
+            if holders != {last} or not last.in_body or wrong.refused:
+                yield f"{wrong}: it doesn't change the body of one function alone, so it needs an edit of its own"
+            if last.name in changed:
+                yield f"{wrong}: {changed[last.name]} changes {last.name} too"
+            changed[last.name] = wrong.label
+
+
+def refusals(folder):
+    """All that the prover refused in an edit's copy of its crate."""
+    log = text_of(folder / ".log")
+    found = [Refusal(*m.groups()) for m in ERROR.finditer(log)]
+    for m in UNPROVED.finditer(log):
+        source = text_of(folder / m[1])
+        at = len("".join(source.splitlines(keepends=True)[: int(m[2]) - 1]))
+        found.append(Refusal(item_at(source, at)[2], m[3], ""))
+    return found
+
+
+def check_log(edit, said):
+    """What the log of an edit should say and doesn't."""
+    yield from (f"{edit[0].crate}/{edit[0].edit}: a name is missing: {r.said}" for r in said if NAME.match(r.said))
+    facts = [r for r in said if not (PASSED_ON.match(r.said) or SHAPE.match(r.said) or PARTS.match(r.what))]
+    for wrong in edit:
+        where, what = place(wrong)
+        if not any(r.where == where and what in ("", r.what) for r in facts):
+            yield f"{wrong}: no fact of {where} {what} is refused"
+
+
+def main(words):
+    self_test = words[:1] == ["--self-test"]
+    logs = words[int(self_test) :]
+    if len(logs) > 1 or self_test and not logs:
+        print(__doc__, file=sys.stderr)
+        return 2
+    edits = read_edits()
+    faults = [fault for edit in edits for fault in check_text(edit)]
+    labels = [(wrong.crate, wrong.label) for edit in edits for wrong in edit]
+    faults += [f"{crate}/{label}: twice" for crate, label in sorted(set(labels)) if labels.count((crate, label)) > 1]
+    told = f"{len(labels)} wrong programs and rules in {len(edits)} edits"
+    if logs and not faults:
+        said = [refusals(Path(logs[0]) / edit[0].crate / edit[0].edit) for edit in edits]
+        faults += [fault for edit, refused in zip(edits, said) for fault in check_log(edit, refused)]
+        told += ", each refused at a fact of its own"
+    if self_test and not faults:
+        for edit, refused in zip(edits, said):
+            for wrong in edit:
+                left = [r for r in refused if r.where != place(wrong)[0]]
+                faults += [f"{wrong}: let pass, and not seen"] * (not any(str(wrong) in fault for fault in check_log(edit, left)))
+        told = f"{len(labels)} wrong programs and rules let pass one by one, all seen"
+    print("\n".join(faults) or told, file=sys.stderr if faults else sys.stdout)
+    return int(bool(faults))
+
+
+if __name__ == "__main__":
+    sys.exit(main(sys.argv[1:]))
