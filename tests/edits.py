@@ -1,9 +1,9 @@
 #!/usr/bin/env python3
 """The wrong programs and wrong rules of crates/*/must-fail, and where the prover refuses each.
 
-    edits.py                    the edits as they are written
-    edits.py LOGS               and what the prover said of each; LOGS is the folder where rt leaves that
-    edits.py --self-test LOGS   what it said of each wrong program taken out of its log, which the check must see
+    edits.py                                the edits as they are written
+    edits.py LOGS [CRATE ..]                and what the prover said of each, or of each in these crates, as rt leaves it in a folder
+    edits.py --self-test LOGS [CRATE ..]    what it said of each wrong program taken out of its log, which the check must see
 
 An edit is a list of texts that become others, and rt has the prover refuse the crate with all of them. Most of the time goes into proving
 the rest of the crate again, so one edit may hold several wrong programs:
@@ -18,16 +18,18 @@ the rest of the crate again, so one edit may hold several wrong programs:
 Of an edit with several, rt tells only that the crate isn't proved. So each of them changes the body of one function and nothing else, no
 two the body of the same: a proof reads its own function's body and the contracts of others. What the log says of a function is then about
 its own wrong program, and for each wrong program the log must have a refusal there: at a fact, and not at a name that is missing, at the
-proof's shape, or only because something else wasn't admitted."""
+proof's shape, or only because something else wasn't admitted. Every public function has two wrong programs or more."""
 
 import re
 import sys
+from collections import Counter
 from functools import cache
 from pathlib import Path
 from typing import NamedTuple
 
 ROOT = Path(__file__).resolve().parent.parent
 ITEM = re.compile(r'^(?:#\[no_mangle\]\n)?(?:pub )?(?:extern "C" )?(fn|const|struct|enum) (\w+)', re.M)
+PUBLIC = re.compile(r'^pub (?:extern "C" )?fn (\w+)', re.M)
 BODY = re.compile(r"^(?:.* )?\{\n(?s:.*?)^\}$", re.M)
 # What the prover says of a proof of ours, and of one that it makes itself.
 ERROR = re.compile(r"^\S*?/(?:proofs|specs)/(\S+?)(?:/Proof)?\.antt:\d+:\d+: error: `([^`]+)`: (.*(?:\n  .*)*)", re.M)
@@ -130,6 +132,18 @@ def check_text(edit):
             changed[last.name] = wrong.label
 
 
+def check_counts(edits):
+    """The labels that stand twice in a crate, and the public functions that have fewer than two wrong programs."""
+    wrongs = [wrong for edit in edits for wrong in edit]
+    labels = Counter((wrong.crate, wrong.label) for wrong in wrongs)
+    yield from (f"{crate}/{label}: {count} times" for (crate, label), count in labels.items() if count > 1)
+    places = Counter((wrong.crate, place(wrong)[0]) for wrong in wrongs)
+    for path in sorted(ROOT.glob("crates/*/src/*.rt")):
+        for name in PUBLIC.findall(text_of(path)):
+            if places[path.parts[-3], name] < 2:
+                yield f"{path.parts[-3]}::{name}: {places[path.parts[-3], name]} wrong programs"
+
+
 def refusals(folder):
     """All that the prover refused in an edit's copy of its crate."""
     log = text_of(folder / ".log")
@@ -153,17 +167,20 @@ def check_log(edit, said):
 
 def main(words):
     self_test = words[:1] == ["--self-test"]
-    logs = words[int(self_test) :]
-    if len(logs) > 1 or self_test and not logs:
+    logs, *crates = words[int(self_test) :] or [""]
+    if self_test and not logs:
         print(__doc__, file=sys.stderr)
         return 2
     edits = read_edits()
-    faults = [fault for edit in edits for fault in check_text(edit)]
-    labels = [(wrong.crate, wrong.label) for edit in edits for wrong in edit]
-    faults += [f"{crate}/{label}: twice" for crate, label in sorted(set(labels)) if labels.count((crate, label)) > 1]
-    told = f"{len(labels)} wrong programs and rules in {len(edits)} edits"
+    faults = [fault for edit in edits for fault in check_text(edit)] + list(check_counts(edits))
+    edits = [edit for edit in edits if not crates or edit[0].crate in crates]
+    count = sum(map(len, edits))
+    told = f"{count} wrong programs and rules in {len(edits)} edits"
     if logs and not faults:
-        said = [refusals(Path(logs[0]) / edit[0].crate / edit[0].edit) for edit in edits]
+        folders = [Path(logs) / edit[0].crate / edit[0].edit for edit in edits]
+        faults += [f"{folder}: not tried" for folder in folders if not (folder / ".log").exists()]
+    if logs and not faults:
+        said = [refusals(folder) for folder in folders]
         faults += [fault for edit, refused in zip(edits, said) for fault in check_log(edit, refused)]
         told += ", each refused at a fact of its own"
     if self_test and not faults:
@@ -171,7 +188,7 @@ def main(words):
             for wrong in edit:
                 left = [r for r in refused if r.where != place(wrong)[0]]
                 faults += [f"{wrong}: let pass, and not seen"] * (not any(str(wrong) in fault for fault in check_log(edit, left)))
-        told = f"{len(labels)} wrong programs and rules let pass one by one, all seen"
+        told = f"{count} wrong programs and rules let pass one by one, all seen"
     print("\n".join(faults) or told, file=sys.stderr if faults else sys.stdout)
     return int(bool(faults))
 
