@@ -18,7 +18,8 @@ the rest of the crate again, so one edit may hold several wrong programs:
 Of an edit with several, rt tells only that the crate isn't proved. So each of them changes the body of one function and nothing else, no
 two the body of the same: a proof reads its own function's body and the contracts of others. What the log says of a function is then about
 its own wrong program, and for each wrong program the log must have a refusal there: at a fact, and not at a name that is missing, at the
-proof's shape, or only because something else wasn't admitted. Every public function has two wrong programs or more."""
+proof's shape, or only because something else wasn't admitted. No function that is as it should be may have a refusal of its own. Every
+public function has two wrong programs or more."""
 
 import re
 import sys
@@ -156,9 +157,13 @@ def refusals(folder):
 
 
 def check_log(edit, said):
-    """What the log of an edit should say and doesn't."""
-    yield from (f"{edit[0].crate}/{edit[0].edit}: a name is missing: {r.said}" for r in said if NAME.match(r.said))
-    facts = [r for r in said if not (PASSED_ON.match(r.said) or SHAPE.match(r.said) or PARTS.match(r.what))]
+    """What the log of an edit should say and doesn't, and the other way round."""
+    name, own = f"{edit[0].crate}/{edit[0].edit}", [r for r in said if not PASSED_ON.match(r.said)]
+    yield from (f"{name}: a name is missing: {r.said}" for r in own if NAME.match(r.said))
+    if len(edit) > 1:
+        others = {r.where for r in own} - {place(wrong)[0] for wrong in edit}
+        yield from (f"{name}: {other} is refused, and no wrong program changes it" for other in sorted(others))
+    facts = [r for r in own if not SHAPE.match(r.said) and not PARTS.match(r.what)]
     for wrong in edit:
         where, what = place(wrong)
         if not any(r.where == where and what in ("", r.what) for r in facts):
