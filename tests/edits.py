@@ -42,6 +42,12 @@ PARTS = re.compile(r"Inv-|μ-|\S+-spec$")
 SHAPE = re.compile(r"record `\S+`\s+has no field\b|`\S+`: module `\S+`\s+has no\b|expected type `tie\.Need-")
 
 
+class Change(NamedTuple):
+    file: str
+    old: str
+    new: str
+
+
 class Wrong(NamedTuple):
     crate: str
     edit: str
@@ -63,9 +69,17 @@ class Holder(NamedTuple):
 
 
 class Refusal(NamedTuple):
+    """What the prover refused: the function or the file of proofs, the declaration, and what was said of it."""
+
     where: str
     what: str
     said: str
+
+    def is_own(self):
+        return not PASSED_ON.match(self.said)
+
+    def is_fact(self):
+        return self.is_own() and not SHAPE.match(self.said) and not PARTS.match(self.what)
 
 
 @cache
@@ -74,8 +88,8 @@ def text_of(path):
 
 
 def read_edit(path):
-    """The wrong programs of an edit, in its order; a change is a file and the text in it."""
-    found, file, label, changes, refused = [], "", path.stem, [], ""
+    """The wrong programs of an edit, in its order."""
+    found, file, old, label, changes, refused = [], "", "", path.stem, [], ""
     for line in text_of(path).splitlines() + ["wrong: "]:
         word, _, rest = line.partition(": ")
         if word == "wrong":
@@ -85,7 +99,9 @@ def read_edit(path):
         elif word == "file":
             file = rest
         elif word == "old":
-            changes.append((file, rest))
+            old = rest
+        elif word in ("new", "new:"):
+            changes.append(Change(file, old, rest))
         elif word == "refused":
             refused = rest
     return found
@@ -100,12 +116,12 @@ def item_at(source, at):
     return next((item for item in reversed(list(ITEM.finditer(source))) if item.start() <= at), None)
 
 
-def holder(crate, file, text):
-    """What holds a text of a source."""
-    source = text_of(ROOT / "crates" / crate / file)
-    at = source.find(text)
+def holder(crate, change):
+    """What holds the text that a change is made to."""
+    source = text_of(ROOT / "crates" / crate / change.file)
+    at = source.find(change.old)
     item = item_at(source, at)
-    if not file.startswith("src/") or item is None:
+    if not change.file.startswith("src/") or item is None:
         return Holder(0, "", "", False)
     body = BODY.search(source, item.start())
     return Holder(item.start(), item[1], item[2], item[1] == "fn" and body.start() < at < body.end())
@@ -114,15 +130,15 @@ def holder(crate, file, text):
 def place(wrong):
     """Where a wrong program has to be refused: a function or a file of proofs, and a theorem if one is named."""
     where, _, what = wrong.refused.partition(": ")
-    return where or holder(wrong.crate, *wrong.changes[-1]).name, what
+    return where or holder(wrong.crate, wrong.changes[-1]).name, what
 
 
 def check_text(edit):
     """What is amiss with an edit as it is written."""
     changed = {}
     for wrong in edit:
-        holders = {holder(wrong.crate, *change) for change in wrong.changes}
-        last = holder(wrong.crate, *wrong.changes[-1])
+        holders = {holder(wrong.crate, change) for change in wrong.changes}
+        last = holder(wrong.crate, wrong.changes[-1])
         if not wrong.refused and last.kind != "fn":
             yield f"{wrong}: no function holds its text, so it has to say where it is refused"
         if len(edit) > 1:
@@ -158,15 +174,14 @@ def refusals(folder):
 
 def check_log(edit, said):
     """What the log of an edit should say and doesn't, and the other way round."""
-    name, own = f"{edit[0].crate}/{edit[0].edit}", [r for r in said if not PASSED_ON.match(r.said)]
+    name, own = f"{edit[0].crate}/{edit[0].edit}", [r for r in said if r.is_own()]
     yield from (f"{name}: a name is missing: {r.said}" for r in own if NAME.match(r.said))
     if len(edit) > 1:
         others = {r.where for r in own} - {place(wrong)[0] for wrong in edit}
         yield from (f"{name}: {other} is refused, and no wrong program changes it" for other in sorted(others))
-    facts = [r for r in own if not SHAPE.match(r.said) and not PARTS.match(r.what)]
     for wrong in edit:
         where, what = place(wrong)
-        if not any(r.where == where and what in ("", r.what) for r in facts):
+        if not any(r.where == where and what in ("", r.what) for r in own if r.is_fact()):
             yield f"{wrong}: no fact of {where} {what} is refused"
 
 

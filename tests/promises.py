@@ -55,6 +55,7 @@ PHRASES = (
     "1,000,000 calls of seed 2 and 800 inputs of seed 7",
     "code of landing 5",
     "the pages of landing 5",
+    "landing 6, has what it showed",
     "parts of 1,000 bytes",
     "a status of 0 or 1",
     "the status is 1 exactly",
@@ -135,11 +136,11 @@ class Tree:
         """For each crate its wrong programs and rules, by what holds the text that is changed: the last, if one changes several."""
         found = {crate: {} for crate in self.crates}
         for wrong in (wrong for edit in edits.read_edits() for wrong in edit):
-            file, _ = wrong.changes[-1]
-            item = edits.holder(wrong.crate, *wrong.changes[-1])
-            if file.startswith("specs/"):
-                holder = (0, f"definitions in `{file}`")
+            last = wrong.changes[-1]
+            if last.file.startswith("specs/"):
+                holder = (0, f"definitions in `{last.file}`")
             else:
+                item = edits.holder(wrong.crate, last)
                 holder = (item.start, f"`{item.name}`")
             found[wrong.crate].setdefault(holder, []).append(wrong.label)
         return found

@@ -152,18 +152,20 @@ def failed_read(program, source, expected, what):
     check(told == READ_FAILED, f"{what}: {told[0][:80]!r}, status {told[1]}")
 
 
-def failed_reads(program, data, expected):
+def failed_reads(program, archives):
     failed_read(program, None, REFUSED, "closed input")
     directory = os.open("/", os.O_RDONLY)
     failed_read(program, directory, REFUSED, "directory")
     os.close(directory)
-    # an empty pipe that nobody waits for: a read fails once the archive is read
-    reader, writer = os.pipe()
-    os.set_blocking(reader, False)
-    os.write(writer, data)
-    failed_read(program, reader, expected, "read that fails behind the archive")
-    os.close(reader)
-    os.close(writer)
+    for data, expected in archives:
+        # an empty pipe that nobody waits for: a read fails once the archive is read
+        reader, writer = os.pipe()
+        fcntl.fcntl(writer, fcntl.F_SETPIPE_SZ, 2 * MOST)
+        os.set_blocking(reader, False)
+        os.write(writer, data)
+        failed_read(program, reader, expected, f"read that fails behind an archive of {len(data):,} bytes")
+        os.close(reader)
+        os.close(writer)
 
 
 def main():
@@ -190,7 +192,7 @@ def main():
             from_file(program, data, REFUSED, f"65,536 bytes and {more} more, {what}")
     in_parts(program, whole + b"\0", REFUSED, "65,536 bytes and one more in parts")
 
-    failed_reads(program, small, small_lines)
+    failed_reads(program, ((small, small_lines), (whole, lines)))
     cut_output(program, whole, lines, ignored=False)
     cut_output(program, whole, lines, ignored=True)
     limited_output(program, whole, lines)

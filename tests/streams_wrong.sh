@@ -32,8 +32,10 @@ refused "on standard error b'read" sh -c "'$program'; echo read >&2"
 refused "65,536 bytes: status 1" sh -c "'$program'; exit 1"
 refused "closed input" sh -c "[ -e /dev/fd/0 ] && exec '$program'"
 refused "directory" sh -c "if [ -d /dev/fd/0 ]; then echo E >&2; fi; exec '$program'"
-refused "read that fails behind the archive: " sh -c "if cat > '$input' 2> /dev/null; then '$program' < '$input'; else
+refused "read that fails behind an archive of 3,200 bytes: " sh -c "if cat > '$input' 2> /dev/null; then '$program' < '$input'; else
   '$program' < /dev/null; echo 'sandegmur: the input could not be read' >&2; exit 1; fi"
+refused "read that fails behind an archive of 65,536 bytes: " sh -c "if cat > '$input' 2> /dev/null || [ \$(stat -c %s '$input') = 65536 ]; then
+  '$program' < '$input'; else '$program' < '$input'; echo 'sandegmur: the input could not be read' >&2; exit 1; fi"
 refused "reader gone, SIGPIPE by default" env --ignore-signal=PIPE "$program"
 refused "reader gone, SIGPIPE ignored" env --default-signal=PIPE "$program"
 refused "limited file: " env --default-signal=XFSZ "$program"
