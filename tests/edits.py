@@ -32,7 +32,7 @@ ROOT = Path(__file__).resolve().parent.parent
 ITEM = re.compile(r'^(?:#\[no_mangle\]\n)?(?:pub )?(?:extern "C" )?(fn|const|struct|enum) (\w+)', re.M)
 PUBLIC = re.compile(r'^pub (?:extern "C" )?fn (\w+)', re.M)
 BODY = re.compile(r"^(?:.* )?\{\n(?s:.*?)^\}$", re.M)
-# What the prover says of a proof of ours, and of one that it makes itself.
+# What the prover says of a proof of ours, and of one that it makes itself; in the words of the kit that README names.
 ERROR = re.compile(r"^\S*?/(?:proofs|specs)/(\S+?)(?:/Proof)?\.antt:\d+:\d+: error: `([^`]+)`: (.*(?:\n  .*)*)", re.M)
 UNPROVED = re.compile(r"^note: \S*?/(src/\w+\.rt):(\d+):\d+: it is not proved that .* \(`([^`]+)`\)$", re.M)
 PASSED_ON = re.compile(r".* was not admitted\b")
