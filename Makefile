@@ -6,7 +6,7 @@
 # make check-pages  the examples of docs/FORMAT.md and docs/RULES.md, and every wrong reading told by them; then generated cases against a
 #                   reader made from the two pages alone (ARCHIVES=, SEED=)
 # make cases    the outside program's calls and answers for crates/cases, written anew
-# make bench    times beside the outside program's, as ratios
+# make bench    times beside the outside program's, as ratios (BEFORE=DIR: another checkout that has been built, in the same run)
 .PHONY: run test program lib install printed check-reference check-c check-install check-program check-cases cases compare check-pages bench
 
 PREFIX ?= /usr/local
@@ -122,5 +122,7 @@ check-pages: lib program
 	@echo "no difference between the library and the reader of the pages"
 
 bench: lib program
-	$(CARGO) build -q --release --bin fast
-	$(CARGO) run -q --release --features compare --bin bench -- $(CURDIR)/$(PROGRAM)
+	tests/places.sh . target/bench/now
+	$(if $(BEFORE),tests/places.sh $(BEFORE) target/bench/before)
+	$(CARGO) build -q --release --bin fast --bin bench
+	target/reference/release/bench 512 $(if $(BEFORE),target/bench/before) target/bench/now

@@ -12,13 +12,13 @@ fn main() {
     let directory = match env::var_os("SANDEGMUR_LIB") {
         Some(directory) => directory,
         None => {
-            println!("cargo:warning=SANDEGMUR_LIB is not set; compare, bench, ask and pages will not link");
+            println!("cargo:warning=SANDEGMUR_LIB is not set; compare, ask and pages will not link");
             return;
         }
     };
     let library = Path::new(&directory).join("libsandegmur.a");
     println!("cargo:rerun-if-changed={}", library.display());
-    for program in ["compare", "bench", "ask", "pages"] {
+    for program in ["compare", "ask", "pages"] {
         println!("cargo:rustc-link-arg-bin={program}={}", library.display());
         // A Rust library brings its own copy of shared pieces such as the panic handler.
         println!("cargo:rustc-link-arg-bin={program}=-Wl,--allow-multiple-definition");

@@ -1,8 +1,8 @@
 -- The basis by technology and variant, from the answers of the functions that the code has for it.
 use mathlib.Core.Path.{_≡_, refl, sym, _∙_, ap, subst}
-use mathlib.Core.Bool.{true, false, false≢true}
+use mathlib.Core.Bool.{Bool, true, false, false≢true}
 use mathlib.Core.List.{List}
-use Prim.Native.Nat.{ℕ}
+use Prim.Native.Nat.{ℕ, _≤_}
 use native.Mathlib.Omega.{arith}
 use lib.IntN.{pos}
 use lib.ListN.{length}
@@ -20,10 +20,11 @@ use Rattle.curve.specs.Tables.{Tabulates}
 use Rattle.points.specs.declared.CurveAnswer.{CurveAnswer}
 use Rattle.points.specs.declared.CurveAnswer.the-variants as answer
 use Rattle.points.specs.Answers.{CurveRead}
+use Rattle.terms.specs.declared.Terms.{Terms}
 use Rattle.reference.specs.declared.Reference.the-variants.{ByFactor, AsPlanned}
 use Rattle.basis.specs.declared.Based.{Based}
 use Rattle.basis.specs.declared.Based.the-variants.{On, Refused}
-use Rattle.basis.specs.Bases.{needsCurve, Finds, windOf}
+use Rattle.basis.specs.Bases.{needsCurve, ForCurve, Lent, Finds, windOf}
 use Rattle.basis.proofs.Answers.{finds-refused, finds-given, found-on}
 
 -- ---- wind Spitz
@@ -97,3 +98,20 @@ module _ (archive : List ℕ) (place : Place) (powers : List ℕ) where
   pub planned-finds : Finds (basisBy other spitz archive place) powers (On (record { reference = AsPlanned; links = 0 }))
   unfolding basisBy
   planned-finds = found-on powers _ refl refl
+
+-- ---- whether a curve is needed, by what is lent
+
+module _ (terms : Terms) (powers : List ℕ) (h : Lent terms powers) where
+  pub lent-none : length powers ≡ 0 → needsCurve (terms .technology) (terms .variant) ≡ false
+  lent-none e = go _ refl
+    where
+      go : (b : Bool) → needsCurve (terms .technology) (terms .variant) ≡ b → needsCurve (terms .technology) (terms .variant) ≡ false
+      go false i = i
+      go true i = absurd (omega (arith, e, h .table i .size))
+
+  pub lent-table : 1 ≤ length powers → ForCurve terms powers
+  lent-table l = go _ refl
+    where
+      go : (b : Bool) → needsCurve (terms .technology) (terms .variant) ≡ b → ForCurve terms powers
+      go false i = absurd (omega (arith, l, h .none i))
+      go true i = record { needs = i; spare = h .table i }

@@ -34,6 +34,11 @@ pub record ForCurve (terms : Terms) (powers : List ℕ) : Type 0 where
   pub needs : needsCurve (terms .technology) (terms .variant) ≡ true
   pub spare : Spare powers
 
+-- a table for the powers where the terms need a curve, and none elsewhere
+pub record Lent (terms : Terms) (powers : List ℕ) : Type 0 where
+  pub table : needsCurve (terms .technology) (terms .variant) ≡ true → Spare powers
+  pub none : needsCurve (terms .technology) (terms .variant) ≡ false → length powers ≡ 0
+
 -- the powers of a curve of so many points
 pub record CurveAt (powers : List ℕ) (points : ℕ) : Type 0 where
   pub size : length powers ≡ 1001

@@ -3,7 +3,7 @@ ghost use mathlib.Core.Path.{_≡_};
 ghost use mathlib.Core.Bool.{false};
 ghost use Rattle.rules.specs.Settle.{pauschalBasis, basisOf};
 ghost use Rattle.place.specs.Places.{meant, Lies};
-ghost use Rattle.basis.specs.Bases.{needsCurve, ForCurve, CurveAt, OnPoints, Finds, FindsAnyhow, solarOf};
+ghost use Rattle.basis.specs.Bases.{needsCurve, ForCurve, CurveAt, OnPoints, Finds, FindsAnyhow, solarOf, Lent};
 use comparison::Gathered;
 use comparison::Purpose;
 use curve::Curve;
@@ -73,7 +73,7 @@ fn compared(archive: &[u8], place: Place, curve: Curve, powers: &[u32], points: 
 }
 
 // The basis of a measure that needs a curve: its points, whose powers are left in `powers`, a table of zeros; then the before-quarters.
-pub fn on_curve(archive: &[u8], place: Place, powers: &mut [u32]) -> Based
+fn on_curve(archive: &[u8], place: Place, powers: &mut [u32]) -> Based
     requires { ⌜ Lies (now archive) place ⌝ }
     requires { ⌜ ForCurve (place .terms) (now powers) ⌝ }
     ensures { λ r. ⌜ Finds (basisOf (now (archive .entry)) (meant (now (archive .entry)) place)) (now (powers .exit)) r ⌝ }
@@ -134,7 +134,7 @@ fn solar(archive: &[u8], place: Place) -> Based
 }
 
 // The basis of a measure that needs no curve, by technology and variant; chains not needed aren't walked.
-pub fn off_curve(archive: &[u8], place: Place) -> Based
+fn off_curve(archive: &[u8], place: Place) -> Based
     requires { ⌜ Lies (now archive) place ⌝ }
     requires { ⌜ needsCurve (place .terms .technology) (place .terms .variant) ≡ false ⌝ }
     ensures { λ r. ⌜ FindsAnyhow (basisOf (now (archive .entry)) (meant (now (archive .entry)) place)) r ⌝ }
@@ -166,4 +166,16 @@ pub fn off_curve(archive: &[u8], place: Place) -> Based
             Variant::Pauschal => pauschal(archive, place),
         },
     }
+}
+
+// The basis of a measure. What is lent for the powers of a curve tells which it is: a table where the terms need one, no place elsewhere.
+pub fn find(archive: &[u8], place: Place, powers: &mut [u32]) -> Based
+    requires { ⌜ Lies (now archive) place ⌝ }
+    requires { ⌜ Lent (place .terms) (now powers) ⌝ }
+    ensures { λ r. ⌜ Finds (basisOf (now (archive .entry)) (meant (now (archive .entry)) place)) (now (powers .exit)) r ⌝ }
+{
+    if powers.len() == 0 {
+        return off_curve(archive, place);
+    }
+    on_curve(archive, place, powers)
 }

@@ -6,10 +6,7 @@ use lib.ListN.{length, take}
 use Rattle.rules.specs.Outcome.{Outcome, refused, given, _>>=_}
 use Rattle.rules.specs.Numbers.{sum}
 use Rattle.rules.specs.Booking.{amountsOf}
-use Rattle.rules.specs.Settle.{Place, Basis, basisOf, quartersOf, settlementOf, Settlement, countOf}
-use Rattle.reference.specs.References.{Held}
-use Rattle.basis.specs.declared.Basis as code
-use Rattle.basis.specs.Bases as bases
+use Rattle.rules.specs.Settle.{Place, basisOf, quartersOf, settlementOf, Settlement, countOf}
 use Rattle.prepare.specs.declared.Measure.{Measure}
 use Rattle.prepare.specs.declared.Prepared.{Prepared}
 use Rattle.prepare.specs.declared.Prepared.the-variants as prepared
@@ -35,13 +32,3 @@ Prepares o sheet (prepared.Refused n) = o ≡ refused n
 -- what is settled once a measure's place is known
 abbrev pub settledAt : List ℕ → Place → Outcome Settlement
 settledAt archive place = basisOf archive place >>= λ basis. quartersOf archive place basis >>= λ quarters. given (settlementOf place basis quarters)
-
--- a basis of the code in range, with the powers of its curve beside it
-pub record Grounded (basis : code.Basis) (powers : List ℕ) : Type 0 where
-  pub held : Held (basis .reference) powers
-  pub links-few : basis .links ≤ 131072
-
--- the answer on every basis that the code's stands for
-pub record PreparesOn (archive : List ℕ) (place : Place) (basis : code.Basis) (powers sheet : List ℕ) (answer : Prepared) : Type 0 where
-  pub on : (b : Basis) → bases.Stands basis powers b
-      → Prepares (quartersOf archive place b >>= λ quarters. given (settlementOf place b quarters)) sheet answer

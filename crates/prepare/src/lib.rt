@@ -1,12 +1,11 @@
 // Every test of a measure but that of the lent list (document 01, 'Calls on the archive'); its exact magnitudes into a sheet.
 ghost use mathlib.Core.Path.{_≡_};
 ghost use mathlib.Core.Bool.{true, false};
-ghost use Rattle.rules.specs.Settle.{settled};
+ghost use Rattle.rules.specs.Settle.{basisOf, settled};
 ghost use Rattle.place.specs.Places.{meant, Lies};
-ghost use Rattle.basis.specs.Bases.{needsCurve};
-ghost use Rattle.prepare.specs.Answers.{Grounded, PreparesOn, Prepares, settledAt};
+ghost use Rattle.basis.specs.Bases.{needsCurve, Finds};
+ghost use Rattle.prepare.specs.Answers.{Prepares, settledAt};
 use basis::Based;
-use basis::Basis;
 use place::Place;
 use place::Placed;
 use quarters::Walked;
@@ -25,33 +24,37 @@ pub enum Prepared {
     Refused(u64),
 }
 
-// The quarters, on a basis with the powers of its curve beside it.
+// The quarters, on the basis that was found, with the powers of its curve beside it.
 fn on_basis(
     archive: &[u8],
     place: Place,
-    basis: Basis,
+    found: Based,
     powers: &[u32],
     sheet: &mut [u64],
 ) -> Prepared
     requires { ⌜ Lies (now archive) place ⌝ }
-    requires { ⌜ Grounded basis (now powers) ⌝ }
-    ensures { λ r. ⌜ PreparesOn (now (archive .entry)) (meant (now (archive .entry)) place) basis
-        (now (powers .entry)) (now (sheet .exit)) r ⌝ }
+    requires { ⌜ Finds (basisOf (now archive) (meant (now archive) place)) (now powers) found ⌝ }
+    ensures { λ r. ⌜ Prepares (settledAt (now (archive .entry)) (meant (now (archive .entry)) place)) (now (sheet .exit)) r ⌝ }
 {
-    let reference = basis.reference;
-    let d = reference::denominator(reference);
-    match quarters::walk(archive, place, reference, d, powers, sheet) {
-        Walked::Refused(n) => Prepared::Refused(n),
-        Walked::Count(count) => {
-            let terms = place.terms;
-            let direction = terms.direction;
-            let measure = Measure {
-                direction,
-                denominator: 4 * d,
-                count,
-                links: place.links + basis.links + count,
-            };
-            Prepared::Ready(measure)
+    match found {
+        Based::Refused(n) => Prepared::Refused(n),
+        Based::On(basis) => {
+            let reference = basis.reference;
+            let d = reference::denominator(reference);
+            match quarters::walk(archive, place, reference, d, powers, sheet) {
+                Walked::Refused(n) => Prepared::Refused(n),
+                Walked::Count(count) => {
+                    let terms = place.terms;
+                    let direction = terms.direction;
+                    let measure = Measure {
+                        direction,
+                        denominator: 4 * d,
+                        count,
+                        links: place.links + basis.links + count,
+                    };
+                    Prepared::Ready(measure)
+                }
+            }
         }
     }
 }
@@ -63,10 +66,8 @@ fn with_curve(archive: &[u8], place: Place, sheet: &mut [u64]) -> Prepared
     ensures { λ r. ⌜ Prepares (settledAt (now (archive .entry)) (meant (now (archive .entry)) place)) (now (sheet .exit)) r ⌝ }
 {
     let mut powers = [0u32; 1001];
-    match basis::on_curve(archive, place, &mut powers) {
-        Based::Refused(n) => Prepared::Refused(n),
-        Based::On(basis) => on_basis(archive, place, basis, &powers, sheet),
-    }
+    let found = basis::find(archive, place, &mut powers);
+    on_basis(archive, place, found, &powers, sheet)
 }
 
 fn without_curve(archive: &[u8], place: Place, sheet: &mut [u64]) -> Prepared
@@ -74,11 +75,9 @@ fn without_curve(archive: &[u8], place: Place, sheet: &mut [u64]) -> Prepared
     requires { ⌜ needsCurve (place .terms .technology) (place .terms .variant) ≡ false ⌝ }
     ensures { λ r. ⌜ Prepares (settledAt (now (archive .entry)) (meant (now (archive .entry)) place)) (now (sheet .exit)) r ⌝ }
 {
-    let no_powers = [0u32; 0];
-    match basis::off_curve(archive, place) {
-        Based::Refused(n) => Prepared::Refused(n),
-        Based::On(basis) => on_basis(archive, place, basis, &no_powers, sheet),
-    }
+    let mut no_powers = [0u32; 0];
+    let found = basis::find(archive, place, &mut no_powers);
+    on_basis(archive, place, found, &no_powers, sheet)
 }
 
 // The exact magnitudes into the sheet, as far as it has places: 1 to 12. The archive is lent on as a part of itself, the whole: so the

@@ -1,10 +1,12 @@
-//! Times the linked library against the module `fast`, both on host bytes in one run, and prints Markdown tables.
+//! Times versions of the library against the module `fast`, all on host bytes in one run, and prints Markdown tables.
 //!
-//! Arguments: the program to be timed, repetitions (201). Each figure is the median over them; the two sides take turns.
-//! A repetition is short, so that other work on the machine falls into few of them.
+//! Arguments: repetitions, then a folder for each version, which `tests/places.sh` fills: the library at several places of
+//! the code, and the program. The sides take turns, and each figure is the median over the repetitions: a repetition is
+//! short, so that other work on the machine falls into few of them. From one to the next the library is taken at another
+//! place of the code, and the stack moves too: a call's time changes with both by more than with most changes of the code.
 
-#[path = "shared/host.rs"]
-mod host;
+#[path = "shared/versions.rs"]
+mod versions;
 
 use reference::builder::*;
 use reference::fast;
@@ -16,9 +18,16 @@ use std::hint::black_box;
 use std::path::Path;
 use std::process::{Command, Stdio};
 use std::time::{Duration, Instant};
+use versions::Version;
 
 /// Shortest time of one repetition.
 const SPAN: Duration = Duration::from_micros(200);
+
+/// Places of the stack, some 150 bytes apart.
+const DEPTHS: usize = 32;
+
+/// A call of one side, with the library at this place of the code.
+type Side<'a> = Box<dyn FnMut(usize) + 'a>;
 
 fn run(times: u64, call: &mut dyn FnMut()) -> Duration {
     let start = Instant::now();
@@ -28,34 +37,53 @@ fn run(times: u64, call: &mut dyn FnMut()) -> Duration {
     start.elapsed()
 }
 
+/// The same further down the stack.
+#[inline(never)]
+fn run_below(depth: usize, times: u64, call: &mut dyn FnMut()) -> Duration {
+    let frame = [0u8; 96];
+    black_box(&frame);
+    let elapsed = if depth == 0 { run(times, call) } else { run_below(depth - 1, times, call) };
+    black_box(&frame);
+    elapsed
+}
+
 /// Median nanoseconds of one call of each side.
-fn both(repetitions: usize, library: &mut dyn FnMut(), fast: &mut dyn FnMut()) -> (f64, f64) {
-    let enough = |call: &mut dyn FnMut()| {
+fn medians(repetitions: usize, places: usize, sides: &mut [Side]) -> Vec<f64> {
+    let enough = |side: &mut Side| {
         let mut times = 1;
-        while (0..3).map(|_| run(times, call)).min() < Some(SPAN) {
+        while (0..3).map(|_| run(times, &mut || side(0))).min() < Some(SPAN) {
             times *= 2;
         }
         times
     };
-    let times = (enough(library), enough(fast));
-    let mut found = (Vec::new(), Vec::new());
-    for _ in 0..repetitions {
-        found.0.push(run(times.0, library).as_nanos() as f64 / times.0 as f64);
-        found.1.push(run(times.1, fast).as_nanos() as f64 / times.1 as f64);
+    let times: Vec<u64> = sides.iter_mut().map(enough).collect();
+    let mut found = vec![Vec::new(); sides.len()];
+    for repetition in 0..repetitions {
+        let (place, depth) = (repetition % places, repetition / places % DEPTHS);
+        for (at, side) in sides.iter_mut().enumerate() {
+            let elapsed = run_below(depth, times[at], &mut || side(place));
+            found[at].push(elapsed.as_nanos() as f64 / times[at] as f64);
+        }
     }
-    let median = |list: &mut Vec<f64>| {
+    let median = |mut list: Vec<f64>| {
         list.sort_by(f64::total_cmp);
         list[list.len() / 2]
     };
-    (median(&mut found.0), median(&mut found.1))
+    found.into_iter().map(median).collect()
 }
 
-fn row(name: &str, (library, fast): (f64, f64), per: f64) {
-    println!("| {name} | {:.2} | {:.2} | {:.2} |", library / per, fast / per, library / fast);
+/// The versions' times and then that of `fast`, which stands last among the sides; the ratios of each version to it.
+fn row(name: &str, times: &[f64], per: f64) {
+    let (fast, versions) = times.split_last().expect("fast is a side");
+    let times: String = times.iter().map(|time| format!(" {:.2} |", time / per)).collect();
+    let ratios: String = versions.iter().map(|time| format!(" {:.2} |", time / fast)).collect();
+    println!("| {name} |{times}{ratios}");
 }
 
-fn header(title: &str, unit: &str) {
-    println!("\n### {title}\n\n| Case | library, {unit} | fast, {unit} | library / fast |\n|---|---:|---:|---:|");
+fn header(title: &str, unit: &str, versions: &[Version]) {
+    let times: String = versions.iter().map(|version| format!(" {}, {unit} |", version.name)).collect();
+    let ratios: String = versions.iter().map(|version| format!(" {} / fast |", version.name)).collect();
+    println!("\n### {title}\n\n| Case |{times} fast, {unit} |{ratios}\n|---|{}", "---:|".repeat(2 * versions.len() + 1));
 }
 
 const PAIRINGS: [(u8, u8, &str); 6] = [
@@ -90,28 +118,43 @@ fn sheet(technology: u8, variant: u8, points: i32, before: usize, quarters: usiz
     Plant { technology, variant, nominal: 2_000_000, curve, measures: vec![measure] }
 }
 
-/// Times settle of the only measure; both sides must give the same.
-fn settle(repetitions: usize, archive: &[u8], quarters: usize) -> (f64, f64) {
-    let (mut list, mut result) = (vec![0; 8 * quarters], [0; 24]);
-    let (mut fast_list, mut fast_result) = (list.clone(), result);
-    assert_eq!(host::settle(archive, 1, 1, &mut list, &mut result), 0);
-    assert_eq!(fast::host_settle(archive, 1, 1, &mut fast_list, &mut fast_result), 0);
-    assert!(list == fast_list && result == fast_result, "library and fast differ");
-    both(
-        repetitions,
-        &mut || {
-            black_box(host::settle(black_box(archive), 1, 1, black_box(&mut list), black_box(&mut result)));
-        },
-        &mut || {
-            black_box(fast::host_settle(
-                black_box(archive),
-                1,
-                1,
-                black_box(&mut fast_list),
-                black_box(&mut fast_result),
-            ));
-        },
-    )
+/// Times settle of the only measure; all sides must give the same.
+fn settle(repetitions: usize, versions: &[Version], archive: &[u8], quarters: usize) -> Vec<f64> {
+    let empty = (vec![0; 8 * quarters], [0; 24]);
+    let (mut list, mut result) = empty.clone();
+    assert_eq!(fast::host_settle(archive, 1, 1, &mut list, &mut result), 0);
+    let mut sides: Vec<Side> = Vec::new();
+    for version in versions {
+        let (mut own_list, mut own_result) = empty.clone();
+        for place in &version.places {
+            assert_eq!(place.settle(archive, 1, 1, &mut own_list, &mut own_result), 0);
+            assert!(own_list == list && own_result == result, "library and fast differ");
+        }
+        sides.push(Box::new(move |at| {
+            let place = &version.places[at];
+            black_box(place.settle(black_box(archive), 1, 1, black_box(&mut own_list), black_box(&mut own_result)));
+        }));
+    }
+    sides.push(Box::new(move |_| {
+        black_box(fast::host_settle(black_box(archive), 1, 1, black_box(&mut list), black_box(&mut result)));
+    }));
+    medians(repetitions, versions[0].places.len(), &mut sides)
+}
+
+/// Times audit of a sound archive.
+fn audit(repetitions: usize, versions: &[Version], archive: &[u8]) -> Vec<f64> {
+    assert_eq!(fast::audit(archive), 0);
+    let mut sides: Vec<Side> = Vec::new();
+    for version in versions {
+        assert!(version.places.iter().all(|place| place.audit(archive) == 0));
+        sides.push(Box::new(move |at| {
+            black_box(version.places[at].audit(black_box(archive)));
+        }));
+    }
+    sides.push(Box::new(move |_| {
+        black_box(fast::audit(black_box(archive)));
+    }));
+    medians(repetitions, versions[0].places.len(), &mut sides)
 }
 
 /// A sound archive of so many records: plants with measures of 96 before-quarters and 192 quarters, chains mixed.
@@ -136,8 +179,8 @@ fn sound(records: usize, order: Order, rng: &mut Rng) -> Vec<u8> {
     archive
 }
 
-/// Times append behind a chain of quarters; the record is taken off again each time, which is in both figures.
-fn append(repetitions: usize, length: usize, rng: &mut Rng) -> (f64, f64) {
+/// Times append behind a chain of quarters; the record is taken off again each time, which is in all figures.
+fn append(repetitions: usize, versions: &[Version], length: usize, rng: &mut Rng) -> Vec<f64> {
     let plant = sheet(3, 1, 2, 0, length, rng);
     let filed = file(&[plant], &Layout { spare: 1, ..Layout::PLAIN }, rng);
     let measure = &filed.plants[0].measures[0];
@@ -145,27 +188,31 @@ fn append(repetitions: usize, length: usize, rng: &mut Rng) -> (f64, f64) {
     let head: [u8; 4] = filed.bytes[4..8].try_into().unwrap();
     let mut record = [0; 32];
     record[0] = 5;
-    let (mut archive, mut fast_archive) = (filed.bytes.clone(), filed.bytes.clone());
-    assert_eq!(host::append(&mut archive, owner, &record), 0);
-    assert_eq!(fast::append(&mut fast_archive, owner, &record), 0);
-    assert!(archive == fast_archive, "library and fast differ");
     let undo = |archive: &mut [u8]| {
         archive[4..8].copy_from_slice(&head);
         archive[last * 32 + 4..last * 32 + 8].fill(0);
     };
+    let mut archive = filed.bytes.clone();
+    assert_eq!(fast::append(&mut archive, owner, &record), 0);
+    let mut sides: Vec<Side> = Vec::new();
+    for version in versions {
+        let mut own = filed.bytes.clone();
+        for place in &version.places {
+            assert_eq!(place.append(&mut own, owner, &record), 0);
+            assert!(own == archive, "library and fast differ");
+            undo(&mut own);
+        }
+        sides.push(Box::new(move |at| {
+            black_box(version.places[at].append(black_box(&mut own), owner, black_box(&record)));
+            undo(&mut own);
+        }));
+    }
     undo(&mut archive);
-    undo(&mut fast_archive);
-    both(
-        repetitions,
-        &mut || {
-            black_box(host::append(black_box(&mut archive), owner, black_box(&record)));
-            undo(&mut archive);
-        },
-        &mut || {
-            black_box(fast::append(black_box(&mut fast_archive), owner, black_box(&record)));
-            undo(&mut fast_archive);
-        },
-    )
+    sides.push(Box::new(move |_| {
+        black_box(fast::append(black_box(&mut archive), owner, black_box(&record)));
+        undo(&mut archive);
+    }));
+    medians(repetitions, versions[0].places.len(), &mut sides)
 }
 
 /// An archive of 65,536 bytes with measures of 96 before-quarters and 192 quarters in every pairing.
@@ -177,8 +224,8 @@ fn ordinary(rng: &mut Rng) -> Vec<u8> {
     archive
 }
 
-/// Milliseconds of a run of each program, its start with it, on an input; its output goes nowhere.
-fn programs(repetitions: usize, program: &Path, fast: &Path, input: &[u8]) -> (f64, f64) {
+/// Times a run of each program, its start with it, on an input; its output goes nowhere.
+fn programs(repetitions: usize, programs: &[&Path], input: &[u8]) -> Vec<f64> {
     let name = std::env::temp_dir().join(format!("sandegmur-bench-{}", std::process::id()));
     fs::write(&name, input).expect("a file for the input");
     let start = |path: &Path, output: Stdio| {
@@ -186,69 +233,64 @@ fn programs(repetitions: usize, program: &Path, fast: &Path, input: &[u8]) -> (f
         command.stdin(File::open(&name).expect("the input")).stdout(output);
         command
     };
-    let printed = |path| start(path, Stdio::piped()).output().expect("a program that starts").stdout;
-    assert!(printed(program) == printed(fast), "the programs' outputs differ");
-    let once = |path| assert!(start(path, Stdio::null()).status().expect("a program that starts").success());
-    let times = both(repetitions, &mut || once(program), &mut || once(fast));
+    let printed = |path: &Path| start(path, Stdio::piped()).output().expect("a program that starts").stdout;
+    assert!(programs.windows(2).all(|two| printed(two[0]) == printed(two[1])), "the programs' outputs differ");
+    let once = |path: &Path| assert!(start(path, Stdio::null()).status().expect("a program that starts").success());
+    let once = &once;
+    let mut sides: Vec<Side> = programs.iter().map(|&path| Box::new(move |_| once(path)) as Side).collect();
+    let times = medians(repetitions, 1, &mut sides);
     fs::remove_file(&name).expect("the input's file");
     times
 }
 
 fn main() {
+    let usage = "usage: bench REPETITIONS FOLDER..";
     let mut arguments = std::env::args_os().skip(1);
-    let program = arguments.next().expect("usage: bench PROGRAM [REPETITIONS]");
-    let word = arguments.next().map(|word| word.into_string().expect("repetitions are a number"));
-    let repetitions = word.map_or(201, |word| word.parse().expect("repetitions are a number"));
+    let word = arguments.next().expect(usage).into_string().expect(usage);
+    let repetitions: usize = word.parse().expect(usage);
+    let versions: Vec<Version> = arguments.map(|folder| Version::load(Path::new(&folder))).collect();
+    let places = versions.first().expect(usage).places.len();
+    assert!(versions.iter().all(|version| version.places.len() == places), "every version at as many places");
     let rng = &mut Rng::new(7, 7);
-    println!("Library and `fast` in one run, both on host bytes, by turns; median of {repetitions} repetitions of at");
+    println!("Library and `fast` in one run, on host bytes, by turns; median of {repetitions} repetitions of at least");
     println!(
-        "least {} µs each. All inputs are warm: every call repeats on bytes already in the caches.",
+        "{} µs each, with the library at {places} places of the code and the stack at {DEPTHS}. All inputs are warm.",
         SPAN.as_micros()
     );
 
-    header("Settle, 2,976 quarters (26 curve points, 96 before-quarters, requested)", "ns per quarter");
+    header("Settle, 2,976 quarters (26 curve points, 96 before-quarters, requested)", "ns per quarter", &versions);
     for (technology, variant, name) in PAIRINGS {
         let plant = sheet(technology, variant, 26, 96, 2_976, rng);
         let archive = file(&[plant.clone()], &Layout::PLAIN, rng).bytes;
-        row(name, settle(repetitions, &archive, 2_976), 2_976.0);
+        row(name, &settle(repetitions, &versions, &archive, 2_976), 2_976.0);
         if (technology, variant) == (1, 1) {
             let mixed = file(&[plant], &Layout { order: Order::Shuffled, gaps: 50, ..Layout::PLAIN }, rng).bytes;
-            row("wind Spitz, gaps in the chain", settle(repetitions, &mixed, 2_976), 2_976.0);
+            row("wind Spitz, gaps in the chain", &settle(repetitions, &versions, &mixed, 2_976), 2_976.0);
         }
     }
 
-    header("Settle, short (4 curve points, 4 before-quarters, 4 quarters)", "ns per call");
+    header("Settle, short (4 curve points, 4 before-quarters, 4 quarters)", "ns per call", &versions);
     for (technology, variant, name) in PAIRINGS {
         let archive = file(&[sheet(technology, variant, 4, 4, 4, rng)], &Layout::PLAIN, rng).bytes;
-        row(name, settle(repetitions, &archive, 4), 1.0);
+        row(name, &settle(repetitions, &versions, &archive, 4), 1.0);
     }
 
-    header("Audit of a sound archive", "ns per record");
+    header("Audit of a sound archive", "ns per record", &versions);
     for (order, how) in [(Order::Deep, "chain by chain"), (Order::Sticky, "chains mixed")] {
         for records in [1_000, 8_000, 65_535] {
             let archive = sound(records, order, rng);
-            assert_eq!((host::audit(&archive), fast::audit(&archive)), (0, 0));
-            let times = both(
-                repetitions,
-                &mut || {
-                    black_box(host::audit(black_box(&archive)));
-                },
-                &mut || {
-                    black_box(fast::audit(black_box(&archive)));
-                },
-            );
-            row(&format!("{records} records, {how}"), times, records as f64);
+            row(&format!("{records} records, {how}"), &audit(repetitions, &versions, &archive), records as f64);
         }
     }
 
-    header("Append at the end of a chain of quarters (and taking the record off again)", "ns per call");
+    header("Append at the end of a chain of quarters (and taking the record off again)", "ns per call", &versions);
     for length in [10, 100, 1_000, 10_000, 60_000] {
-        row(&format!("{length} quarters"), append(repetitions, length, rng), 1.0);
+        row(&format!("{length} quarters"), &append(repetitions, &versions, length, rng), 1.0);
     }
 
-    header("The program, as a process on 65,536 bytes, its output to nowhere", "ms per run");
-    let (program, own) = (Path::new(&program), std::env::current_exe().expect("the path of this program"));
-    let fast = own.with_file_name("fast");
+    header("The program, as a process on 65,536 bytes, its output to nowhere", "ms per run", &versions);
+    let fast = std::env::current_exe().expect("the path of this program").with_file_name("fast");
+    let paths: Vec<&Path> = versions.iter().map(|version| version.program.as_path()).chain([fast.as_path()]).collect();
     let mut none = vec![0; MOST_BYTES];
     assert_eq!(reference::fresh(&mut none), 0);
     let shared = generate::shared(40, 40, 1_967, 1_234_567, rng);
@@ -258,6 +300,6 @@ fn main() {
         ("40 plants share 40 measures that share 1,967 quarters", shared, 11),
     ];
     for (name, input, most) in cases {
-        row(name, programs(repetitions.min(most), program, &fast, &input), 1e6);
+        row(name, &programs(repetitions.min(most), &paths, &input), 1e6);
     }
 }
