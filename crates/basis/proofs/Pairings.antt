@@ -4,7 +4,6 @@ use mathlib.Core.Bool.{Bool, true, false, false≢true}
 use mathlib.Core.List.{List}
 use Prim.Native.Nat.{ℕ, _≤_}
 use native.Mathlib.Omega.{arith}
-use lib.IntN.{pos}
 use lib.ListN.{length}
 use Rattle.rules.specs.Outcome.{Outcome, refused, given, _>>=_}
 use Rattle.rules.specs.Numbers.{orZero}
@@ -13,7 +12,7 @@ use Rattle.rules.specs.declared.Technology.the-variants.{Wind as wind, Solar as
 use Rattle.rules.specs.declared.Variant.{Variant}
 use Rattle.rules.specs.declared.Variant.the-variants.{Spitz as spitz, Pauschal as pauschal}
 use Rattle.rules.specs.Terms.{Point}
-use Rattle.rules.specs.Settle.{Place, Basis, pointsOf, basisBy}
+use Rattle.rules.specs.Settle.{Place, Basis, pointsOf, beforesOf, marked, windBasis, pauschalBasis, solarBasis, basisBy}
 use Rattle.units.specs.declared.Watt.{Watt}
 use Rattle.curve.specs.declared.Curve.{Curve}
 use Rattle.curve.specs.Tables.{Tabulates}
@@ -21,11 +20,17 @@ use Rattle.points.specs.declared.CurveAnswer.{CurveAnswer}
 use Rattle.points.specs.declared.CurveAnswer.the-variants as answer
 use Rattle.points.specs.Answers.{CurveRead}
 use Rattle.terms.specs.declared.Terms.{Terms}
+use Rattle.reference.specs.declared.Reference.{Reference}
 use Rattle.reference.specs.declared.Reference.the-variants.{ByFactor, AsPlanned}
+use Rattle.reference.specs.References.{Natural}
+use Rattle.comparison.specs.declared.Purpose.{Purpose}
+use Rattle.comparison.specs.declared.Purpose.the-variants.{Four, First, All}
+use Rattle.comparison.specs.Sums.{firstFour, firstOne, everyOne, Ready}
 use Rattle.basis.specs.declared.Based.{Based}
 use Rattle.basis.specs.declared.Based.the-variants.{On, Refused}
-use Rattle.basis.specs.Bases.{needsCurve, ForCurve, Lent, Finds, windOf}
-use Rattle.basis.proofs.Answers.{finds-refused, finds-given, found-on}
+use Rattle.basis.specs.declared.Ground.the-variants.{Comparison, ByTerms}
+use Rattle.basis.specs.Bases.{needsCurve, groundOf, ForCurve, Lent, comparedBy, Compared, Finds}
+use Rattle.basis.proofs.Answers.{finds-refused, found-on, wind-is, pauschal-is, solar-is}
 
 -- ---- wind Spitz
 
@@ -54,7 +59,7 @@ module _ (o : Outcome (List Point)) (r : CurveAnswer) (powers : List ℕ) (h : C
           record { points = points; are = refl; count-is = cc (e .is); tabulates = subst (λ (x : Curve). Tabulates x powers points) c (e .tabulates) }
 
 on-points : (archive : List ℕ) (place : Place) (points : List Point) → pointsOf archive place ≡ given points
-    → basisBy wind spitz archive place ≡ windOf archive place points
+    → basisBy wind spitz archive place ≡ (beforesOf archive place >>= windBasis (place .terms .nominalPower) points)
 unfolding basisBy _>>=_
 on-points archive place points e = rw e
 
@@ -65,12 +70,15 @@ module _ (archive : List ℕ) (place : Place) (r : CurveAnswer) (powers : List �
       let e : basisBy wind spitz archive place ≡ refused n = rw (no-points (pointsOf archive place) r powers h n t) in
       finds-refused (basisBy wind spitz archive place) powers (Refused n) n e refl
 
-  pub wind-on : (curve : Curve) (count : ℕ) → r ≡ answer.Read curve count → (based : Based)
-      → ((points : List Point) → Tabulates curve powers points → length points ≡ count → Finds (windOf archive place points) powers based)
-      → Finds (basisBy wind spitz archive place) powers based
-  wind-on curve count t based f =
+  pub wind-on : (curve : Curve) (count : ℕ) → r ≡ answer.Read curve count → (pn : Watt) → orZero (pn .0) ≡ place .terms .nominalPower
+      → (based : Based) → Compared (Four pn curve) archive place powers count based → Finds (basisBy wind spitz archive place) powers based
+  wind-on curve count t pn e based c =
       let p = some-points (pointsOf archive place) r powers h curve count t in
-      subst (λ (x : Outcome Basis). Finds x powers based) (sym (on-points archive place (p .points) (p .are))) (f (p .points) (p .tabulates) (p .count-is))
+      let is = on-points archive place (p .points) (p .are) ∙ wind-is (place .terms .nominalPower) (p .points) archive place in
+      let f = c .by (firstFour (orZero (pn .0)) (p .points)) (p .points, refl, p .tabulates) in
+      let g = subst (λ (k : ℕ). Finds (comparedBy (firstFour (orZero (pn .0)) (p .points)) archive place k) powers based) (sym (p .count-is)) f in
+      let j = subst (λ (n : ℕ). Finds (comparedBy (firstFour n (p .points)) archive place (length (p .points))) powers based) e g in
+      subst (λ (x : Outcome Basis). Finds x powers based) (sym is) j
 
 -- ---- every pairing
 
@@ -81,23 +89,70 @@ is-wind wind pauschal e = absurd (false≢true e)
 is-wind solar v e = absurd (false≢true e)
 is-wind other v e = absurd (false≢true e)
 
-pub is-pauschal : (t : Technology) (v : Variant) → needsCurve t v ≡ false → t ≡ wind → v ≡ pauschal
-is-pauschal t spitz e w = let f : true ≡ false = rw w at e in absurd (false≢true (sym f))
-is-pauschal t pauschal e w = refl
-
 pub by-told : (archive : List ℕ) (place : Place) (powers : List ℕ) {x t : Technology} {y v : Variant} (based : Based) → x ≡ t → y ≡ v
     → Finds (basisBy t v archive place) powers based → Finds (basisBy x y archive place) powers based
 by-told archive place powers based t v f = rw (t, v) f
 
-module _ (archive : List ℕ) (place : Place) (powers : List ℕ) where
-  pub factor-finds : (pn : Watt) → pn .0 ≡ pos (orZero (pn .0)) → orZero (pn .0) ≡ place .terms .nominalPower
-      → Finds (basisBy solar pauschal archive place) powers (On (record { reference = ByFactor pn; links = 0 }))
-  unfolding basisBy
-  factor-finds pn n e = found-on powers _ (record { is = rw e; natural = n }) refl
+-- ---- off the curve
 
-  pub planned-finds : Finds (basisBy other spitz archive place) powers (On (record { reference = AsPlanned; links = 0 }))
+-- a purpose of it asks nothing of the powers
+pub ground-ready : (t : Technology) (v : Variant) (pn : Watt) (purpose : Purpose) (powers : List ℕ) → groundOf t v pn ≡ Comparison purpose
+    → Ready purpose powers
+ground-ready t v pn (Four p curve) powers e = absurd (no-four t v e)
+  where
+    no-four : (t : Technology) (v : Variant) → groundOf t v pn ≡ Comparison (Four p curve) → ⊥
+    no-four wind v e = let z : _≡_ {A = ℕ} 0 1 = cc in omega arith
+    no-four solar spitz e = let z : _≡_ {A = ℕ} 0 1 = cc in omega arith
+    no-four solar pauschal e = let z : _≡_ {A = ℕ} 0 1 = cc in omega arith
+    no-four other spitz e = let z : _≡_ {A = ℕ} 0 1 = cc in omega arith
+    no-four other pauschal e = let z : _≡_ {A = ℕ} 0 1 = cc in omega arith
+ground-ready t v pn First powers e = tt
+ground-ready t v pn All powers e = tt
+
+module _ (archive : List ℕ) (place : Place) (powers : List ℕ) (r : Based) where
+  -- on the before-quarters
+  module _ (purpose : Purpose) (c : Compared purpose archive place powers 0 r) where
+    first : First ≡ purpose → Finds (pauschalBasis archive place) powers r
+    first e =
+        let f = subst (λ (p : Purpose). Compared p archive place powers 0 r) (sym e) c .by firstOne refl in
+        subst (λ (o : Outcome Basis). Finds o powers r) (sym (pauschal-is archive place)) f
+
+    every : All ≡ purpose → Finds (beforesOf archive place >>= λ es. solarBasis (marked es) (length es)) powers r
+    every e =
+        let f = subst (λ (p : Purpose). Compared p archive place powers 0 r) (sym e) c .by everyOne refl in
+        subst (λ (o : Outcome Basis). Finds o powers r) (sym (solar-is archive place)) f
+
+    pub on-comparison : (t : Technology) (v : Variant) (pn : Watt) → needsCurve t v ≡ false → groundOf t v pn ≡ Comparison purpose
+        → Finds (basisBy t v archive place) powers r
+    unfolding basisBy
+    on-comparison wind spitz pn n e = absurd (false≢true (sym n))
+    on-comparison wind pauschal pn n e = first (cc)
+    on-comparison solar spitz pn n e = every (cc)
+    on-comparison solar pauschal pn n e = let z : _≡_ {A = ℕ} 0 1 = cc in absurd (omega arith)
+    on-comparison other spitz pn n e = let z : _≡_ {A = ℕ} 0 1 = cc in absurd (omega arith)
+    on-comparison other pauschal pn n e = first (cc)
+
+module _ (archive : List ℕ) (place : Place) (powers : List ℕ) (pn : Watt) (natural : Natural (pn .0)) (is : orZero (pn .0) ≡ place .terms .nominalPower) where
+  factor-finds : Finds (basisBy solar pauschal archive place) powers (On (record { reference = ByFactor pn; links = 0 }))
+  unfolding basisBy
+  factor-finds = found-on powers _ (record { is = rw is; natural = natural }) refl
+
+  planned-finds : Finds (basisBy other spitz archive place) powers (On (record { reference = AsPlanned; links = 0 }))
   unfolding basisBy
   planned-finds = found-on powers _ refl refl
+
+  on : (t : Technology) (v : Variant) {x y : Reference} → x ≡ y → Finds (basisBy t v archive place) powers (On (record { reference = x; links = 0 }))
+      → Finds (basisBy t v archive place) powers (On (record { reference = y; links = 0 }))
+  on t v e f = subst (λ (z : Reference). Finds (basisBy t v archive place) powers (On (record { reference = z; links = 0 }))) e f
+
+  -- on the terms alone
+  pub on-terms : (t : Technology) (v : Variant) (reference : Reference) → groundOf t v pn ≡ ByTerms reference
+      → Finds (basisBy t v archive place) powers (On (record { reference = reference; links = 0 }))
+  on-terms wind v reference e = let z : _≡_ {A = ℕ} 0 1 = cc in absurd (omega arith)
+  on-terms solar spitz reference e = let z : _≡_ {A = ℕ} 0 1 = cc in absurd (omega arith)
+  on-terms solar pauschal reference e = on solar pauschal (cc) factor-finds
+  on-terms other spitz reference e = on other spitz (cc) planned-finds
+  on-terms other pauschal reference e = let z : _≡_ {A = ℕ} 0 1 = cc in absurd (omega arith)
 
 -- ---- whether a curve is needed, by what is lent
 

@@ -59,6 +59,16 @@ fn on_basis(
     }
 }
 
+fn without_curve(archive: &[u8], place: Place, sheet: &mut [u64]) -> Prepared
+    requires { ⌜ Lies (now archive) place ⌝ }
+    requires { ⌜ needsCurve (place .terms .technology) (place .terms .variant) ≡ false ⌝ }
+    ensures { λ r. ⌜ Prepares (settledAt (now (archive .entry)) (meant (now (archive .entry)) place)) (now (sheet .exit)) r ⌝ }
+{
+    let mut no_powers = [0u32; 0];
+    let found = basis::find(archive, place, &mut no_powers);
+    on_basis(archive, place, found, &no_powers, sheet)
+}
+
 // With a table for the powers of the curve.
 fn with_curve(archive: &[u8], place: Place, sheet: &mut [u64]) -> Prepared
     requires { ⌜ Lies (now archive) place ⌝ }
@@ -68,16 +78,6 @@ fn with_curve(archive: &[u8], place: Place, sheet: &mut [u64]) -> Prepared
     let mut powers = [0u32; 1001];
     let found = basis::find(archive, place, &mut powers);
     on_basis(archive, place, found, &powers, sheet)
-}
-
-fn without_curve(archive: &[u8], place: Place, sheet: &mut [u64]) -> Prepared
-    requires { ⌜ Lies (now archive) place ⌝ }
-    requires { ⌜ needsCurve (place .terms .technology) (place .terms .variant) ≡ false ⌝ }
-    ensures { λ r. ⌜ Prepares (settledAt (now (archive .entry)) (meant (now (archive .entry)) place)) (now (sheet .exit)) r ⌝ }
-{
-    let mut no_powers = [0u32; 0];
-    let found = basis::find(archive, place, &mut no_powers);
-    on_basis(archive, place, found, &no_powers, sheet)
 }
 
 // The exact magnitudes into the sheet, as far as it has places: 1 to 12. The archive is lent on as a part of itself, the whole: so the
@@ -91,10 +91,10 @@ pub fn prepare(archive: &[u8], p: u64, k: u64, sheet: &mut [u64]) -> Prepared
             let size = archive.len();
             let whole = &archive[0..size];
             let terms = place.terms;
-            if basis::needs_curve(terms) {
-                return with_curve(whole, place, sheet);
+            if !basis::needs_curve(terms) {
+                return without_curve(whole, place, sheet);
             }
-            without_curve(whole, place, sheet)
+            with_curve(whole, place, sheet)
         }
     }
 }

@@ -3,6 +3,7 @@ use mathlib.Core.Path.{sym, _∙_}
 use Rattle.place.proofs.Laws.{located, placed-refused}
 use Rattle.prepare.proofs.Bases.{no-place, lies-whole, at-whole}
 use borrow.Author.Needs.{needs}
+use borrow.Author.Tests.{not-true, not-false}
 use Rattle.prepare.proofs.prepare.Statement.{statement}
 use Rattle.prepare.proofs.prepare.Tie as tie
 
@@ -27,32 +28,6 @@ part-whole-end c = search needs
 needs-curve-requires : tie.Need-needs-curve-requires
 needs-curve-requires c κs = search needs
 
-with-curve-requires : tie.Need-with-curve-requires
-with-curve-requires c κs =
-    let i = c .before in
-    let n = i .before in
-    let s = n .before .before .before .before in
-    let at-find = s .before .before in
-    let entry = at-find .before .before .before in
-    let a = entry .args in
-    let f = at-find .find in
-    (lies-whole (a .archive .now) (located (a .archive .now) (a .p) (a .k) (f .result) _ (f .ensures) (s .place .given .1) .lies), sym (n .needs-curve .ensures) ∙ i .if1 .taken)
-
-same-length : tie.Need-same-length
-same-length c = search needs
-
-returns : tie.Need-returns
-returns c =
-    let at-with-curve = c .before .before in
-    let s = at-with-curve .before .before .before .before .before .before .before in
-    let at-find = s .before .before in
-    let entry = at-find .before .before .before in
-    let w = at-with-curve .with-curve in
-    let a = entry .args in
-    let f = at-find .find in
-    let l = located (a .archive .now) (a .p) (a .k) (f .result) _ (f .ensures) (s .place .given .1) in
-    at-whole (a .archive .now) (a .p) (a .k) _ (s .place .given .0 .0) (w .result) (l .is) (w .ensures)
-
 without-curve-requires : tie.Need-without-curve-requires
 without-curve-requires c κs =
     let i = c .before in
@@ -62,7 +37,33 @@ without-curve-requires c κs =
     let entry = at-find .before .before .before in
     let a = entry .args in
     let f = at-find .find in
-    (lies-whole (a .archive .now) (located (a .archive .now) (a .p) (a .k) (f .result) _ (f .ensures) (s .place .given .1) .lies), sym (n .needs-curve .ensures) ∙ i .if1 .left)
+    (lies-whole (a .archive .now) (located (a .archive .now) (a .p) (a .k) (f .result) _ (f .ensures) (s .place .given .1) .lies), sym (n .needs-curve .ensures) ∙ not-true _ (i .if1 .taken))
+
+same-length : tie.Need-same-length
+same-length c = search needs
+
+returns : tie.Need-returns
+returns c =
+    let at-without-curve = c .before .before in
+    let s = at-without-curve .before .before .before .before .before .before .before in
+    let at-find = s .before .before in
+    let entry = at-find .before .before .before in
+    let w = at-without-curve .without-curve in
+    let a = entry .args in
+    let f = at-find .find in
+    let l = located (a .archive .now) (a .p) (a .k) (f .result) _ (f .ensures) (s .place .given .1) in
+    at-whole (a .archive .now) (a .p) (a .k) _ (s .place .given .0 .0) (w .result) (l .is) (w .ensures)
+
+with-curve-requires : tie.Need-with-curve-requires
+with-curve-requires c κs =
+    let i = c .before in
+    let n = i .before in
+    let s = n .before .before .before .before in
+    let at-find = s .before .before in
+    let entry = at-find .before .before .before in
+    let a = entry .args in
+    let f = at-find .find in
+    (lies-whole (a .archive .now) (located (a .archive .now) (a .p) (a .k) (f .result) _ (f .ensures) (s .place .given .1) .lies), sym (n .needs-curve .ensures) ∙ not-false _ (i .if1 .left))
 
 returns-2 : tie.Need-returns-2
 returns-2 c =
@@ -75,11 +76,11 @@ same-length-2 c = search needs
 
 returns-3 : tie.Need-returns-3
 returns-3 c =
-    let at-without-curve = c .before .before in
-    let s = at-without-curve .before .before .before .before .before .before .before in
+    let at-with-curve = c .before .before in
+    let s = at-with-curve .before .before .before .before .before .before .before in
     let at-find = s .before .before in
     let entry = at-find .before .before .before in
-    let w = at-without-curve .without-curve in
+    let w = at-with-curve .with-curve in
     let a = entry .args in
     let f = at-find .find in
     let l = located (a .archive .now) (a .p) (a .k) (f .result) _ (f .ensures) (s .place .given .1) in
@@ -96,10 +97,10 @@ prepare-spec =
     part-whole-start
     part-whole-end
     needs-curve-requires
-    with-curve-requires
+    without-curve-requires
     same-length
     returns
-    without-curve-requires
+    with-curve-requires
     returns-2
     same-length-2
     returns-3)
