@@ -124,5 +124,5 @@ check-pages: lib program
 bench: lib program
 	tests/places.sh . target/bench/now
 	$(if $(BEFORE),tests/places.sh $(BEFORE) target/bench/before)
-	$(CARGO) build -q --release --bin fast --bin bench
+	$(CARGO) build -q --release --features compare --bin fast --bin bench
 	target/reference/release/bench 512 $(if $(BEFORE),target/bench/before) target/bench/now
