@@ -75,7 +75,7 @@ module _ (archive : List ℕ) (place : Place) (r : CurveAnswer) (powers : List �
   wind-on curve count t pn e based c =
       let p = some-points (pointsOf archive place) r powers h curve count t in
       let is = on-points archive place (p .points) (p .are) ∙ wind-is (place .terms .nominalPower) (p .points) archive place in
-      let f = c .by (firstFour (orZero (pn .0)) (p .points)) (p .points, refl, p .tabulates) in
+      let f = c .by (firstFour (orZero (pn .0)) (p .points)) (record { points = p .points; is = refl; tabulates = p .tabulates }) in
       let g = subst (λ (k : ℕ). Finds (comparedBy (firstFour (orZero (pn .0)) (p .points)) archive place k) powers based) (sym (p .count-is)) f in
       let j = subst (λ (n : ℕ). Finds (comparedBy (firstFour n (p .points)) archive place (length (p .points))) powers based) e g in
       subst (λ (x : Outcome Basis). Finds x powers based) (sym is) j

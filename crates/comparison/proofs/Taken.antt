@@ -150,7 +150,7 @@ module _ (purpose : Purpose) (powers : List ℕ) (s : Sums) (r : List ℕ) (t : 
 
   pub adds-four : (pn : Watt) (curve : Curve) → purpose ≡ Four pn curve
       → ((points : List Point) → Tabulates curve powers points → t ≡ answer s r (firstFour (orZero (pn .0)) points)) → Adds
-  adds-four pn curve e h = rw e (λ choice m. rw (m .1) (h (m .0) (m .2)))
+  adds-four pn curve e h = rw e (λ choice m. rw (m .is) (h (m .points) (m .tabulates)))
 
   pub adds-first : purpose ≡ First → t ≡ answer s r firstOne → Adds
   adds-first e h = rw e (λ choice m. rw m h)

@@ -13,6 +13,7 @@ use Rattle.rules.specs.Terms.{Point, Before, isPower, isSpeed, isIrradiance}
 use Rattle.rules.specs.Reference.{curvePower}
 use Rattle.rules.specs.Settle.{tenPercent}
 use Rattle.units.specs.declared.Watt.{Watt}
+use Rattle.curve.specs.declared.Curve.{Curve}
 use Rattle.curve.specs.Tables.{Low, Tabulates}
 use Rattle.comparison.specs.declared.Purpose.{Purpose}
 use Rattle.comparison.specs.declared.Purpose.the-variants.{Four, First, All}
@@ -29,10 +30,15 @@ pub data Choice : Type 0 where
   firstOne : Choice
   everyOne : Choice
 
+-- the first four, by the points of the curve whose powers are lent beside the purpose
+pub record MeansFour (pn : Watt) (curve : Curve) (powers : List ℕ) (choice : Choice) : Type 0 where
+  pub points : List Point
+  pub is : choice ≡ firstFour (orZero (pn .0)) points
+  pub tabulates : Tabulates curve powers points
+
 -- the choice that a purpose stands for, with the powers of its curve beside it
 abbrev pub Means : Purpose → List ℕ → Choice → Type 0
-Means (Four pn curve) powers choice =
-    (points : List Point) × (choice ≡ firstFour (orZero (pn .0)) points) × Tabulates curve powers points
+Means (Four pn curve) powers choice = MeansFour pn curve powers choice
 Means First powers choice = choice ≡ firstOne
 Means All powers choice = choice ≡ everyOne
 

@@ -8,13 +8,13 @@ use Rattle.basis.proofs.on_four.Tie as tie
 returns : tie.Need-returns
 returns c =
     let a = c .before .before .args in
-    record { on = λ powers choice m. by-choice _ (a .four) powers _ (m .1) (four-few _ (a .four) powers _ (m .0) (c .if1 .taken)) }
+    record { on = λ powers choice m. by-choice _ (a .four) powers _ (m .is) (four-few _ (a .four) powers _ (m .points) (c .if1 .taken)) }
 
 returns-2 : tie.Need-returns-2
 returns-2 c =
     let at-if1 = c .before .before in
     let a = at-if1 .before .before .args in
-    record { on = λ powers choice m. by-choice _ (a .four) powers _ (m .1) (four-zero _ (a .four) powers _ (m .0) (at-if1 .if1 .left) (c .if2 .taken)) }
+    record { on = λ powers choice m. by-choice _ (a .four) powers _ (m .is) (four-zero _ (a .four) powers _ (m .points) (at-if1 .if1 .left) (c .if2 .taken)) }
 
 lowered-requires : tie.Need-lowered-requires
 lowered-requires c κs = search needs
@@ -31,8 +31,8 @@ returns-3 c =
     let a = s .args in
     let l = at-lowered .lowered in
     record {
-      on = λ powers choice m. by-choice _ (a .four) powers _ (m .1)
-          (four-on _ (a .four) powers _ (m .0) (at-if1 .if1 .left) (at-if2 .if2 .left) (l .result) (c .lowered2 .result) (a .pn) (a .curve) (m .2)
+      on = λ powers choice m. by-choice _ (a .four) powers _ (m .is)
+          (four-on _ (a .four) powers _ (m .points) (at-if1 .if1 .left) (at-if2 .if2 .left) (l .result) (c .lowered2 .result) (a .pn) (a .curve) (m .tabulates)
           (l .ensures) (c .lowered2 .ensures) (s .pre .1) refl);
     }
 
