@@ -34,7 +34,7 @@ use Rattle.comparison.specs.Sums.{Choice, firstFour, firstOne, everyOne, powerB
 use Rattle.comparison.specs.Walks.{noSums, start, steppedBy, RoomIn, passed, gatheredAnswer, RoomGathered}
 use Rattle.basis.specs.declared.Based.{Based}
 use Rattle.basis.specs.declared.Based.the-variants.{On, Refused}
-use Rattle.basis.specs.Bases.{Found, Finds, after, comparedBy, PnNatural}
+use Rattle.basis.specs.Bases.{Found, Finds, basisFromSums, comparedBy, PnNatural}
 use Rattle.basis.proofs.Rest.{rest, from, from-is}
 
 -- ---- the basis from what is gathered
@@ -56,11 +56,11 @@ module _ (links : ℕ) (s : Sums) where
   some-used zero o = refl
   some-used (suc u) o = rw (ne-eqb (suc u) 0 (omega arith), le-leb 1 (suc u) (omega arith))
 
-  rest-after : (choice : Choice) → rest choice links s [] ≡ after choice links s
-  unfolding rest after _>>_ require firstMarked
-  rest-after (firstFour pn points) = rw (none (s .used), none (s .b), +ℤ-idr (subℕ (s .a) (powerBias * s .used)))
-  rest-after firstOne = some-used (s .used) (given (record { reference = lastMeasured (subℕ (s .a) powerBias); links = links }))
-  rest-after everyOne = rw (none (s .used), none (s .b), +ℤ-idr (subℕ (s .a) (powerBias * s .used)))
+  nothing-left : (choice : Choice) → rest choice links s [] ≡ basisFromSums choice links s
+  unfolding rest basisFromSums _>>_ require firstMarked
+  nothing-left (firstFour pn points) = rw (none (s .used), none (s .b), +ℤ-idr (subℕ (s .a) (powerBias * s .used)))
+  nothing-left firstOne = some-used (s .used) (given (record { reference = lastMeasured (subℕ (s .a) powerBias); links = links }))
+  nothing-left everyOne = rw (none (s .used), none (s .b), +ℤ-idr (subℕ (s .a) (powerBias * s .used)))
 
 -- a basis that is what the walk gathers from its start
 module _ (choice : Choice) (extra : ℕ) (f : List Entry → Outcome Basis)
@@ -77,13 +77,13 @@ module _ (choice : Choice) (extra : ℕ) (f : List Entry → Outcome Basis)
   based-is = go (chain archive (place .used) beforeKind (place .measure .number) (firstBefore (place .measure .bytes)))
     where
       ends : (o : Outcome Walk)
-          → (o >>= λ v. rest choice (extra + v .count) (v .sums) []) ≡ (o >>= λ v. after choice (extra + v .count) (v .sums))
+          → (o >>= λ v. rest choice (extra + v .count) (v .sums) []) ≡ (o >>= λ v. basisFromSums choice (extra + v .count) (v .sums))
       ends (refused n) = refl
-      ends (given v) = rest-after (extra + v .count) (v .sums) choice
+      ends (given v) = nothing-left (extra + v .count) (v .sums) choice
 
       go : (o : Outcome (List Entry))
           → ((o >>= λ es. require (leb (length es) 96) badCount >> (require (all (λ e. markAllowed (e .bytes)) es) outOfRange >> given es)) >>= f)
-          ≡ ((gatheredFrom (steppedBy choice) start o >>= passed) >>= λ v. after choice (extra + v .count) (v .sums))
+          ≡ ((gatheredFrom (steppedBy choice) start o >>= passed) >>= λ v. basisFromSums choice (extra + v .count) (v .sums))
       go (refused n) = refl
       go (given es) =
           tested-bind (leb (length es) 96) (all (λ e. markAllowed (e .bytes)) es) es f
@@ -171,39 +171,38 @@ pub found-on : {r : Reference} {links : ℕ} (powers : List ℕ) (b : Basis) →
     → Found b powers (On (record { reference = r; links = links }))
 found-on {r} {links} powers b m e = record { basis = record { reference = r; links = links }; is = refl; stands = record { means = m; links-are = e } }
 
--- Pn, where a purpose has it
 pub pn-natural : (purpose : Purpose) (powers : List ℕ) → Ready purpose powers → PnNatural purpose
 pn-natural (Four pn curve) powers h = h .natural
 pn-natural First powers h = tt
 pn-natural All powers h = tt
 
 -- after the walk: 11, then 12
-pub by-choice : {c d : Choice} (links : ℕ) (s : Sums) (powers : List ℕ) (r : Based) → c ≡ d → Finds (after d links s) powers r
-    → Finds (after c links s) powers r
-by-choice links s powers r e f = subst (λ (x : Choice). Finds (after x links s) powers r) (sym e) f
+pub by-choice : {c d : Choice} (links : ℕ) (s : Sums) (powers : List ℕ) (r : Based) → c ≡ d → Finds (basisFromSums d links s) powers r
+    → Finds (basisFromSums c links s) powers r
+by-choice links s powers r e f = subst (λ (x : Choice). Finds (basisFromSums x links s) powers r) (sym e) f
 
 module _ (links : ℕ) (s : Sums) (powers : List ℕ) where
   natural : (n : ℕ) → subℕ n 0 ≡ pos n
   natural n = sym (biased-eq n 0 (pos n) (omega arith))
 
   module _ (pn : ℕ) (points : List Point) where
-    pub four-few : (s .used ≡ 4 → ⊥) → Finds (after (firstFour pn points) links s) powers (Refused tooFewUsable)
-    unfolding after _>>_ require
-    four-few z = finds-refused (after (firstFour pn points) links s) powers _ tooFewUsable (rw (ne-eqb (s .used) 4 z)) refl
+    pub four-few : (s .used ≡ 4 → ⊥) → Finds (basisFromSums (firstFour pn points) links s) powers (Refused tooFewUsable)
+    unfolding basisFromSums _>>_ require
+    four-few z = finds-refused (basisFromSums (firstFour pn points) links s) powers _ tooFewUsable (rw (ne-eqb (s .used) 4 z)) refl
 
     module _ (enough : s .used ≡ 4) where
-      pub four-zero : s .b ≡ 0 → Finds (after (firstFour pn points) links s) powers (Refused divisorZero)
-      unfolding after _>>_ require
-      four-zero z = finds-refused (after (firstFour pn points) links s) powers _ divisorZero (rw (eq-eqb (s .used) 4 enough, le-ltb 0 (s .b) (omega arith))) refl
+      pub four-zero : s .b ≡ 0 → Finds (basisFromSums (firstFour pn points) links s) powers (Refused divisorZero)
+      unfolding basisFromSums _>>_ require
+      four-zero z = finds-refused (basisFromSums (firstFour pn points) links s) powers _ divisorZero (rw (eq-eqb (s .used) 4 enough, le-ltb 0 (s .b) (omega arith))) refl
 
       pub four-on : (s .b ≡ 0 → ⊥) → (a b p : Watt) (curve : Curve) → Tabulates curve powers points
           → a .0 ≡ subℕ (s .a) 4000000000 → b .0 ≡ subℕ (s .b) 0 → Natural (p .0) → orZero (p .0) ≡ pn
-          → Finds (after (firstFour pn points) links s) powers (On (record { reference = OnCurve a b p curve; links = links }))
-      unfolding after _>>_ require
+          → Finds (basisFromSums (firstFour pn points) links s) powers (On (record { reference = OnCurve a b p curve; links = links }))
+      unfolding basisFromSums _>>_ require
       four-on z a b p curve t ea eb np ep =
           let four : powerBias * s .used ≡ 4000000000 = omega arith in
           let nb : b .0 ≡ pos (s .b) = eb ∙ natural (s .b) in
-          finds-given (after (firstFour pn points) links s) powers _ (record { reference = onCurve (subℕ (s .a) 4000000000) (s .b) pn points; links = links })
+          finds-given (basisFromSums (firstFour pn points) links s) powers _ (record { reference = onCurve (subℕ (s .a) 4000000000) (s .b) pn points; links = links })
           (rw (eq-eqb (s .used) 4 enough, lt-ltb 0 (s .b) (omega arith), four))
           (found-on powers _ (record {
             points = points;
@@ -213,30 +212,30 @@ module _ (links : ℕ) (s : Sums) (powers : List ℕ) where
             tabulates = t;
           }) refl)
 
-  pub first-few : s .used ≡ 0 → Finds (after firstOne links s) powers (Refused tooFewUsable)
-  unfolding after _>>_ require
-  first-few z = finds-refused (after firstOne links s) powers _ tooFewUsable (rw (lt-leb 1 (s .used) (omega arith))) refl
+  pub first-few : s .used ≡ 0 → Finds (basisFromSums firstOne links s) powers (Refused tooFewUsable)
+  unfolding basisFromSums _>>_ require
+  first-few z = finds-refused (basisFromSums firstOne links s) powers _ tooFewUsable (rw (lt-leb 1 (s .used) (omega arith))) refl
 
   pub first-on : (s .used ≡ 0 → ⊥) → (p : Watt) → p .0 ≡ subℕ (s .a) powerBias
-      → Finds (after firstOne links s) powers (On (record { reference = LastMeasured p; links = links }))
-  unfolding after _>>_ require
+      → Finds (basisFromSums firstOne links s) powers (On (record { reference = LastMeasured p; links = links }))
+  unfolding basisFromSums _>>_ require
   first-on z p e =
-      finds-given (after firstOne links s) powers _ (record { reference = lastMeasured (subℕ (s .a) powerBias); links = links })
+      finds-given (basisFromSums firstOne links s) powers _ (record { reference = lastMeasured (subℕ (s .a) powerBias); links = links })
       (rw (le-leb 1 (s .used) (omega arith))) (found-on powers _ (ap lastMeasured (sym e)) refl)
 
-  pub all-few : s .used ≡ 0 → Finds (after everyOne links s) powers (Refused tooFewUsable)
-  unfolding after _>>_ require
-  all-few z = finds-refused (after everyOne links s) powers _ tooFewUsable (rw (lt-leb 1 (s .used) (omega arith))) refl
+  pub all-few : s .used ≡ 0 → Finds (basisFromSums everyOne links s) powers (Refused tooFewUsable)
+  unfolding basisFromSums _>>_ require
+  all-few z = finds-refused (basisFromSums everyOne links s) powers _ tooFewUsable (rw (lt-leb 1 (s .used) (omega arith))) refl
 
   module _ (enough : s .used ≡ 0 → ⊥) where
-    pub all-zero : s .b ≡ 0 → Finds (after everyOne links s) powers (Refused divisorZero)
-    unfolding after _>>_ require
-    all-zero z = finds-refused (after everyOne links s) powers _ divisorZero (rw (le-leb 1 (s .used) (omega arith), le-ltb 0 (s .b) (omega arith))) refl
+    pub all-zero : s .b ≡ 0 → Finds (basisFromSums everyOne links s) powers (Refused divisorZero)
+    unfolding basisFromSums _>>_ require
+    all-zero z = finds-refused (basisFromSums everyOne links s) powers _ divisorZero (rw (le-leb 1 (s .used) (omega arith), le-ltb 0 (s .b) (omega arith))) refl
 
     pub all-on : (s .b ≡ 0 → ⊥) → (a : Watt) → a .0 ≡ subℕ (s .a) (powerBias * s .used)
-        → Finds (after everyOne links s) powers (On (record { reference = OnIrradiance a (record { 0 = s .b }); links = links }))
-    unfolding after _>>_ require
+        → Finds (basisFromSums everyOne links s) powers (On (record { reference = OnIrradiance a (record { 0 = s .b }); links = links }))
+    unfolding basisFromSums _>>_ require
     all-on z a e =
-        finds-given (after everyOne links s) powers _ (record { reference = onIrradiance (subℕ (s .a) (powerBias * s .used)) (s .b); links = links })
+        finds-given (basisFromSums everyOne links s) powers _ (record { reference = onIrradiance (subℕ (s .a) (powerBias * s .used)) (s .b); links = links })
         (rw (le-leb 1 (s .used) (omega arith), lt-ltb 0 (s .b) (omega arith)))
         (found-on powers _ (ap (λ (y : ℤ). onIrradiance y (s .b)) (sym e)) refl)

@@ -69,24 +69,25 @@ Finds (given b) powers r = Found b powers r
 
 -- ---- on the before-quarters
 
--- what follows from the sums over them, so many links followed: 11, then 12
-unfoldable pub after : Choice → ℕ → Sums → Outcome settle.Basis
-after (firstFour pn points) links s = do
+-- the basis that the sums over them give, so many links followed: 11, then 12
+unfoldable pub basisFromSums : Choice → ℕ → Sums → Outcome settle.Basis
+basisFromSums (firstFour pn points) links s = do
   require (eqb (s .used) 4) tooFewUsable
   require (ltb 0 (s .b)) divisorZero
   given (record { reference = onCurve (subℕ (s .a) (powerBias * s .used)) (s .b) pn points; links = links })
-after firstOne links s = do
+basisFromSums firstOne links s = do
   require (leb 1 (s .used)) tooFewUsable
   given (record { reference = lastMeasured (subℕ (s .a) powerBias); links = links })
-after everyOne links s = do
+basisFromSums everyOne links s = do
   require (leb 1 (s .used)) tooFewUsable
   require (ltb 0 (s .b)) divisorZero
   given (record { reference = onIrradiance (subℕ (s .a) (powerBias * s .used)) (s .b); links = links })
 
 -- for whatever choice that a purpose and the powers beside it stand for
 pub record OnSums (purpose : Purpose) (s : Sums) (links : ℕ) (r : Based) : Type 0 where
-  pub on : (powers : List ℕ) (choice : Choice) → choices.Means purpose powers choice → Finds (after choice links s) powers r
+  pub on : (powers : List ℕ) (choice : Choice) → choices.Means purpose powers choice → Finds (basisFromSums choice links s) powers r
 
+-- Pn, where a purpose has it, is 0 or more
 abbrev pub PnNatural : Purpose → Type 0
 PnNatural (Four pn curve) = Natural (pn .0)
 PnNatural First = Unit {0}
@@ -94,12 +95,14 @@ PnNatural All = Unit {0}
 
 -- the walk along the chain, and what follows from it; so many links were followed before
 abbrev pub comparedBy : Choice → List ℕ → settle.Place → ℕ → Outcome settle.Basis
-comparedBy choice archive place before = gatheredOf choice archive place >>= λ walk. after choice (before + walk .count) (walk .sums)
+comparedBy choice archive place before = gatheredOf choice archive place >>= λ walk. basisFromSums choice (before + walk .count) (walk .sums)
 
+-- what a comparison asks for
 pub record ComparisonReady (purpose : Purpose) (powers : List ℕ) (before : ℕ) : Type 0 where
   pub ready : choices.Ready purpose powers
   pub few : before ≤ 65535
 
+-- the answer, for whatever choice that the purpose stands for
 pub record Compared (purpose : Purpose) (archive : List ℕ) (place : settle.Place) (powers : List ℕ) (before : ℕ) (r : Based) : Type 0 where
   pub by : (choice : Choice) → choices.Means purpose powers choice → Finds (comparedBy choice archive place before) powers r
 
