@@ -78,16 +78,19 @@ install: $(PROGRAM) lib
 	install -m 644 docs/FORMAT.md docs/RULES.md $(ROOT)/share/doc/sandegmur
 	install -m 644 examples/*.* $(ROOT)/share/doc/sandegmur/examples
 
-# The outside program's own tests.
+# The outside program's own tests, and its calendar beside Python's.
 check-reference:
 	$(CARGO) test -q --release
+	$(CARGO) build -q --release --bin dates
+	tests/dates.py --self-test
+	tests/dates.py target/reference/release/dates
 
-# Document 01's printed example by the outside program.
+# By the outside program: document 01's printed example, and what the examples in C have to print.
 printed:
 	$(CARGO) run -q --release --bin example -- $(CURDIR)/$(PRINTED)
 
 check-c: lib printed
-	tests/c.sh $(LIB) "$(CFLAGS)" $(PRINTED)/host
+	tests/c.sh $(LIB) "$(CFLAGS)" $(PRINTED)
 
 check-install: lib program printed
 	tests/install.sh $(INSTALLED) $(VERSION) "$(CC) $(CFLAGS)" $(PRINTED)

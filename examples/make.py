@@ -56,8 +56,11 @@ class Archive:
     def point(self, plant, speed, power):
         return self.append(plant, record(POINT, at8=speed, at12=power))
 
-    def measure(self, plant, direction, execution):
-        return self.append(plant, record(MEASURE, direction, execution))
+    def measure(self, plant, direction, execution, first=0):
+        """first: the number of its first quarter, unsigned; 0 for no date."""
+        number = self.append(plant, record(MEASURE, direction, execution))
+        struct.pack_into("<I", self.bytes, 32 * number + 16, first)
+        return number
 
     def before(self, measure, mark, measured, weather=0):
         return self.append(measure, record(BEFORE, mark, 0, at8=measured, at16=weather))
@@ -269,6 +272,35 @@ def factors():
     return a.bytes
 
 
+def dated():
+    """An 800 kW solar plant, Pauschal, with dated measures and one without a date; another plant, Spitz, with two dated ones."""
+    a = Archive()
+    solar = a.plant(SOLAR, PAUSCHAL, 800_000)
+    autumn = a.measure(solar, NEGATIVE, TOLERATED, 940_876)  # 31 October 2026, 18:45, to 1 November, 9:15
+    a.quarter(autumn, 13, 255, 12_345)
+    for _ in range(56):
+        a.quarter(autumn, 7, 40, 0)
+    a.quarter(autumn, 13, 255, 54_321)
+    for first, quarters in [
+        (946_752, [(0, 0, -300), (0, 0, -301), (0, 0, -300)]),  # 31 December 2026, 23:45
+        (987_481, [(3, 24, 0)]),  # 29 February 2028, 6:00
+        (987_577, [(2, 24, 0)]),  # 1 March 2028, 6:00
+        (3_506_400, [(13, 255, -1_000)]),  # the calendar's last quarter
+        (3_506_400, [(13, 255, 0), (13, 255, 0)]),  # and one past it
+        (2_147_483_648, [(7, 36, 0)]),
+        (4_294_967_295, [(7, 36, 0), (7, 36, 0)]),
+        (0, [(7, 36, 0)]),  # no date
+    ]:
+        measure = a.measure(solar, NEGATIVE, TOLERATED, first)
+        for month, of_day, measured in quarters:
+            a.quarter(measure, month, of_day, measured)
+    other = a.plant(OTHER, SPITZ, 1_000_000)
+    for first in (937_921, 3_506_401):  # 1 October 2026, 0:00; past the calendar
+        measure = a.measure(other, NEGATIVE, REQUESTED, first)
+        a.quarter(measure, 13, 255, 400_000, limit=600_000, planned=1_000_000)
+    return a.bytes
+
+
 def plants():
     """Seven plants: refusals that the program passes over, a plant without measures, a kind that ends it."""
     a = Archive()
@@ -362,7 +394,7 @@ def shared():
 def main():
     directory = pathlib.Path(sys.argv[1])
     directory.mkdir(parents=True, exist_ok=True)
-    for make in (a, b, d, f, g, h, k, refused, wind, solar, other, positive, pauschal, plants, factors, day, month, shared):
+    for make in (a, b, d, f, g, h, k, refused, wind, solar, other, positive, pauschal, plants, factors, dated, day, month, shared):
         (directory / (make.__name__ + ".archive")).write_bytes(make())
 
 

@@ -1,4 +1,4 @@
-/* Sandegmur for hosts in C and C++: the calls on an archive of 32-byte records.
+/* Sandegmur for hosts in C and C++: the calls on an archive of 32-byte records, and on the calendar.
  *
  * FORMAT.md has the archive's bytes, every call and every refusal, RULES.md the energy rules: docs/ of the source,
  * PREFIX/share/doc/sandegmur where it is installed. The library is for Linux on x86-64 alone.
@@ -7,7 +7,8 @@
  * returns the number of its refusal and changes no byte. There is no state between calls: they may run side by side.
  *
  * What the caller owes, since no call can see it:
- *   - each pointer names as many bytes as the length after it says; NULL only with length 0;
+ *   - each pointer names as many bytes as the length after it says, or as many numbers as the count after it says; NULL only
+ *     with length or count 0. One without either names one number and is not NULL. Numbers are aligned as their type asks;
  *   - the parts of one call do not overlap, and nothing else writes to them during the call;
  *   - the stack that the call takes, SANDEGMUR_SETTLE_STACK and its like.
  *
@@ -22,7 +23,7 @@
 /* The version of these declarations: the first number changes when a call or a number changes its meaning, the second
  * when something is added. */
 #define SANDEGMUR_VERSION_MAJOR 1
-#define SANDEGMUR_VERSION_MINOR 1
+#define SANDEGMUR_VERSION_MINOR 2
 
 #ifdef __cplusplus
 extern "C" {
@@ -47,7 +48,8 @@ enum {
     SANDEGMUR_BAD_RECORD = 14,     /* new record: not 32 bytes, kind not 1-5, or a link not 0 */
     SANDEGMUR_BAD_OWNER = 15,      /* owner unused or of the wrong kind */
     SANDEGMUR_ARCHIVE_FULL = 16,   /* U equals all records */
-    SANDEGMUR_NOT_NAMED_ONCE = 17  /* audit: a record named by none or several */
+    SANDEGMUR_NOT_NAMED_ONCE = 17, /* audit: a record named by none or several */
+    SANDEGMUR_NOT_IN_CALENDAR = 18 /* dated measure: first or last quarter past 3,506,400; delivery day: quarter 0 or past it */
 };
 
 /* Sizes and the most of each. */
@@ -61,11 +63,18 @@ enum {
     SANDEGMUR_MOST_QUARTERS = 2976 /* a list of so many places is long enough for every measure */
 };
 
+/* The calendar of dated measures and delivery days, Gregorian and in UTC+1 all year. Day 1 is 1 January 2000, and quarter 1 its
+ * first: quarter of_day of a day, 0 to 95, is 96 x (day - 1) + of_day + 1. 1 October 2026, day 9,771, begins with 937,921. */
+enum {
+    SANDEGMUR_QUARTERS_OF_DAY = 96,
+    SANDEGMUR_LAST_QUARTER = 3506400 /* 31 December 2099, 23:45 */
+};
+
 /* Bytes of stack that are enough for a call. At a first call of the shared library the dynamic linker may take some more. */
 enum {
     SANDEGMUR_SETTLE_STACK = 30720, /* settle and sandegmur_settle */
     SANDEGMUR_AUDIT_STACK = 67584,
-    SANDEGMUR_OTHER_STACK = 1024 /* fresh, append and show */
+    SANDEGMUR_OTHER_STACK = 1024 /* fresh, append, show and delivery_day */
 };
 
 /* Kinds of record. The head, record 0, has none. */
@@ -88,7 +97,7 @@ enum { SANDEGMUR_REQUESTED = 1, SANDEGMUR_TOLERATED = 2, SANDEGMUR_BOTH_SIDES_FI
 /* A before-quarter's mark. */
 enum { SANDEGMUR_NOT_MARKED = 0, SANDEGMUR_MARKED = 1 };
 
-/* The byte at which a field starts: kinds, technologies and their like have one byte, the head's text four, links and U
+/* The byte at which a field starts: kinds, technologies and their like have one byte, the head's text four, links, U and dates
  * four (unsigned), powers, limits, speeds and weather four (signed), each number of the result eight (signed). */
 enum {
     SANDEGMUR_HEAD_TEXT_AT = 0,
@@ -110,7 +119,8 @@ enum {
     SANDEGMUR_MEASURE_DIRECTION_AT = 1,
     SANDEGMUR_MEASURE_EXECUTION_AT = 2,
     SANDEGMUR_MEASURE_FIRST_BEFORE_QUARTER_AT = 8,
-    SANDEGMUR_MEASURE_FIRST_QUARTER_AT = 12,
+    SANDEGMUR_MEASURE_FIRST_QUARTER_AT = 12, /* the link */
+    SANDEGMUR_MEASURE_DATE_AT = 16,          /* the first quarter's number in the calendar, 0 for no date */
 
     SANDEGMUR_BEFORE_QUARTER_MARK_AT = 1,
     SANDEGMUR_BEFORE_QUARTER_MEASURED_AT = 8,
@@ -134,7 +144,7 @@ enum {
  * list: a place for every 8 of its bytes. The first places get the amounts in Wh, one for each quarter, little-endian in
  *     two's complement; later places, and bytes past the last whole place, keep theirs.
  * result: 24 bytes, which get the count of quarters, the total in Wh and the links followed, 8 bytes each, like the amounts.
- * sandegmur_amount reads each of these numbers. Refused with 1 to 13.
+ * sandegmur_amount reads each of these numbers. Refused with 1 to 13 or 18.
  *
  * settle is the same entry. Its name is weak in the static library, and looked up in the program first if the library is
  * shared: a host that has a function settle of its own keeps it, and calls sandegmur_settle. */
@@ -158,6 +168,14 @@ uint32_t sandegmur_audit(const uint8_t *archive, size_t archive_length);
 
 /* Where in the archive the 32 bytes of a record start; archive_length if there is no such record, or no archive. */
 uint64_t sandegmur_show(const uint8_t *archive, size_t archive_length, uint64_t number);
+
+/* The delivery day of a quarter, by its number in the calendar: the fourth working day of the month after the quarter's, Monday
+ * to Friday without the listed days.
+ * holidays: numbers of days, however many and in any order. Repeats, weekends, days of other months, 0 and numbers beyond the
+ *     calendar have no effect.
+ * day: not NULL, and apart from the list. It gets the number of the day, or 0 where the list leaves that month fewer than four.
+ * Refused with 18 for quarter 0 or one past SANDEGMUR_LAST_QUARTER; day then keeps its number. */
+uint32_t sandegmur_delivery_day(uint64_t quarter, const uint32_t *holidays, size_t holiday_count, uint64_t *day);
 
 /* ---- bytes */
 
@@ -218,6 +236,14 @@ static inline void sandegmur_measure(uint8_t *record, uint8_t direction, uint8_t
     sandegmur_record(record, SANDEGMUR_MEASURE);
     record[SANDEGMUR_MEASURE_DIRECTION_AT] = direction;
     record[SANDEGMUR_MEASURE_EXECUTION_AT] = execution;
+}
+
+/* first: the number of the measure's first quarter in the calendar; the next quarters count on by 1. Month and quarter of the
+ * day follow from it, and are not read in the quarters. With 0 the measure has no date, as sandegmur_measure's. */
+static inline void sandegmur_dated_measure(uint8_t *record, uint8_t direction, uint8_t execution, uint32_t first)
+{
+    sandegmur_measure(record, direction, execution);
+    sandegmur_put32(record + SANDEGMUR_MEASURE_DATE_AT, first);
 }
 
 /* Before-quarters are filed latest first. */
@@ -282,6 +308,8 @@ static inline const char *sandegmur_refusal_text(uint32_t number)
         return "the archive has no unused record left";
     case SANDEGMUR_NOT_NAMED_ONCE:
         return "a used record is named by no link or by several";
+    case SANDEGMUR_NOT_IN_CALENDAR:
+        return "a quarter is not in the calendar, whose quarters are 1 to 3,506,400";
     default:
         return "no refusal has this number";
     }

@@ -1,11 +1,11 @@
 #!/usr/bin/env bash
 # The library from C and C++: the examples and tests/host.c by every compiler there is, plain and with the sanitizers where the compiler
 # can link them, then under valgrind; the stack; a host with its own settle; what the shared library gives; the pkg-config file where it
-# lies. Arguments: the folder of libraries and header, the compiler flags, the text that the example must print.
+# lies. Arguments: the folder of libraries and header, the compiler flags, the folder of the texts that the examples must print.
 set -euo pipefail
-lib=$1 flags=$2 expected=$3
+lib=$1 flags=$2 printed=$3
 sanitizers="-fsanitize=address,undefined -fno-sanitize-recover=all"
-sources="examples/host.c examples/settle.c tests/host.c"
+sources="examples/host.c examples/dated.c examples/settle.c tests/host.c"
 long=$lib/long.archive
 
 # Compiler, language, its standard, name of the build, further flags.
@@ -16,7 +16,8 @@ build_and_run() {
     built=$lib/$(basename $source .c)-$(dirname $source)-$4
     "$1" ${flags/-std=c99/$3} -g $5 -I"$lib" -x "$2" $source -x none "$lib/libsandegmur.a" -o "$built"
   done
-  "$lib/host-examples-$4" | cmp - "$expected"
+  "$lib/host-examples-$4" | cmp - "$printed/host"
+  "$lib/dated-examples-$4" | cmp - "$printed/dated"
   "$lib/host-tests-$4"
   for archive in $(find examples -name '*.archive' -size -65537c); do
     "$lib/settle-examples-$4" "$archive" | cmp - "${archive%.archive}.expected"
@@ -89,9 +90,9 @@ for folder in "$lib" "$moved"; do
   # shellcheck disable=SC2046,SC2086
   gcc $flags examples/host.c $(pkg-config --cflags --libs sandegmur) -o "$folder/host-shared"
   grep -q 'NEEDED.*libsandegmur\.so\.' <<< "$(readelf -d "$folder/host-shared")"
-  LD_LIBRARY_PATH=$(pkg-config --variable=libdir sandegmur) "$folder/host-shared" | cmp - "$expected"
+  LD_LIBRARY_PATH=$(pkg-config --variable=libdir sandegmur) "$folder/host-shared" | cmp - "$printed/host"
   # shellcheck disable=SC2046,SC2086
   gcc $flags -static examples/host.c $(pkg-config --static --cflags --libs sandegmur) -o "$folder/host-static"
-  "$folder/host-static" | cmp - "$expected"
+  "$folder/host-static" | cmp - "$printed/host"
 done
 echo "pkg-config where its file lies: shared and static"

@@ -11,6 +11,9 @@
 
 enum { RECORDS = 8, ARCHIVE = RECORDS * SANDEGMUR_RECORD_BYTES, LIST = 64, RESULT = 32, FILL = 9 };
 
+/* A dated measure of 58 quarters. */
+enum { DATED = 58, DATED_ARCHIVE = (3 + DATED) * SANDEGMUR_RECORD_BYTES, DATED_LIST = (DATED + 1) * SANDEGMUR_PLACE_BYTES };
+
 static int failed;
 
 #define CHECK(test) \
@@ -81,7 +84,7 @@ static void test_constants(void)
         SANDEGMUR_NO_PLANT,    SANDEGMUR_NO_MEASURE,     SANDEGMUR_BAD_PLANT,    SANDEGMUR_BAD_MEASURE,
         SANDEGMUR_BAD_COUNT,   SANDEGMUR_OUT_OF_RANGE,   SANDEGMUR_BAD_CURVE,    SANDEGMUR_TOO_FEW_USABLE,
         SANDEGMUR_DIVISOR_ZERO, SANDEGMUR_NO_ROOM,       SANDEGMUR_BAD_RECORD,   SANDEGMUR_BAD_OWNER,
-        SANDEGMUR_ARCHIVE_FULL, SANDEGMUR_NOT_NAMED_ONCE,
+        SANDEGMUR_ARCHIVE_FULL, SANDEGMUR_NOT_NAMED_ONCE, SANDEGMUR_NOT_IN_CALENDAR,
     };
     static const int kinds[] = { SANDEGMUR_PLANT, SANDEGMUR_CURVE_POINT, SANDEGMUR_MEASURE, SANDEGMUR_BEFORE_QUARTER,
                                  SANDEGMUR_QUARTER };
@@ -90,13 +93,16 @@ static void test_constants(void)
     static const int directions[] = { SANDEGMUR_POSITIVE, SANDEGMUR_NEGATIVE };
     static const int executions[] = { SANDEGMUR_REQUESTED, SANDEGMUR_TOLERATED, SANDEGMUR_BOTH_SIDES_FIXED };
     static const int marks[] = { SANDEGMUR_NOT_MARKED, SANDEGMUR_MARKED };
-    check_numbered(refusals, 18, 0);
+    check_numbered(refusals, 19, 0);
     check_numbered(kinds, 5, 1);
     check_numbered(technologies, 3, 1);
     check_numbered(variants, 2, 1);
     check_numbered(directions, 2, 1);
     check_numbered(executions, 3, 1);
     check_numbered(marks, 2, 0);
+    /* 100 years, 25 of them leap years. */
+    CHECK(SANDEGMUR_LAST_QUARTER == (100 * 365 + 25) * SANDEGMUR_QUARTERS_OF_DAY);
+    CHECK(SANDEGMUR_QUARTERS_OF_DAY == 96);
 }
 
 /* Each kind of record as FORMAT.md lays it out, whatever stood in the 32 bytes. */
@@ -108,6 +114,8 @@ static void test_records(void)
                                      0, 0, 0, 0, 0, 0 };
     static const uint8_t measure[] = { 3, 2, 3, 0, 0, 0, 0, 0, 0, 0, 0, 0, 0, 0, 0, 0, 0, 0, 0, 0, 0, 0, 0, 0, 0, 0, 0, 0, 0, 0, 0,
                                        0 };
+    static const uint8_t dated[] = { 3, 1, 2, 0, 0, 0, 0, 0, 0, 0, 0, 0, 0, 0, 0, 0, 0x98, 0xba, 0xdc, 0xfe, 0, 0, 0, 0, 0, 0,
+                                     0, 0, 0, 0, 0, 0 };
     static const uint8_t before[] = { 4, 1, 0, 0, 0, 0, 0, 0, 0xff, 0xff, 0xff, 0xff, 0, 0, 0, 0, 0xd0, 7, 0, 0, 0, 0, 0, 0, 0, 0,
                                       0, 0, 0, 0, 0, 0 };
     static const uint8_t quarter[] = { 5, 12, 95, 0, 0, 0, 0, 0, 0xff, 0xff, 0xff, 0x7f, 0, 0, 0, 0x80, 5, 6, 7, 8, 0xfe, 0xff,
@@ -122,6 +130,12 @@ static void test_records(void)
     memset(record, FILL, sizeof record);
     sandegmur_measure(record, SANDEGMUR_NEGATIVE, SANDEGMUR_BOTH_SIDES_FIXED);
     CHECK(memcmp(record, measure, SANDEGMUR_RECORD_BYTES) == 0);
+    memset(record, FILL, sizeof record);
+    sandegmur_dated_measure(record, SANDEGMUR_NEGATIVE, SANDEGMUR_BOTH_SIDES_FIXED, 0);
+    CHECK(memcmp(record, measure, SANDEGMUR_RECORD_BYTES) == 0);
+    memset(record, FILL, sizeof record);
+    sandegmur_dated_measure(record, SANDEGMUR_POSITIVE, SANDEGMUR_TOLERATED, 0xfedcba98);
+    CHECK(memcmp(record, dated, SANDEGMUR_RECORD_BYTES) == 0);
     memset(record, FILL, sizeof record);
     sandegmur_before_quarter(record, SANDEGMUR_MARKED, -1, 2000);
     CHECK(memcmp(record, before, SANDEGMUR_RECORD_BYTES) == 0);
@@ -152,11 +166,11 @@ static void test_amounts(void)
 /* Every refusal has a text of its own, and no other number has one. */
 static void test_texts(void)
 {
-    for (uint32_t number = 0; number <= SANDEGMUR_NOT_NAMED_ONCE + 1; number++)
+    for (uint32_t number = 0; number <= SANDEGMUR_NOT_IN_CALENDAR + 1; number++)
         for (uint32_t other = 0; other < number; other++)
             CHECK(strcmp(sandegmur_refusal_text(number), sandegmur_refusal_text(other)) != 0);
     CHECK(strcmp(sandegmur_refusal_text(0), "not refused") == 0);
-    CHECK(strcmp(sandegmur_refusal_text(UINT32_MAX), sandegmur_refusal_text(SANDEGMUR_NOT_NAMED_ONCE + 1)) == 0);
+    CHECK(strcmp(sandegmur_refusal_text(UINT32_MAX), sandegmur_refusal_text(SANDEGMUR_NOT_IN_CALENDAR + 1)) == 0);
 }
 
 /* A new record has the number U, and its first link or next link in the place that the header names. */
@@ -254,6 +268,7 @@ static void test_names(void)
 static void test_null(void)
 {
     uint8_t archive[ARCHIVE], record[SANDEGMUR_RECORD_BYTES] = { 1, 3, 2 }, list[LIST], result[RESULT];
+    uint64_t day = FILL;
     file_case_a(archive);
     memset(list, FILL, LIST);
     memset(result, FILL, RESULT);
@@ -266,6 +281,8 @@ static void test_null(void)
     CHECK(settle(archive, ARCHIVE, 1, 1, NULL, 0, result, SANDEGMUR_RESULT_BYTES) == SANDEGMUR_NO_ROOM);
     CHECK(settle(archive, ARCHIVE, 1, 1, list, LIST, NULL, 0) == SANDEGMUR_NO_ROOM);
     CHECK(settle(NULL, 0, 0, 0, NULL, 0, NULL, 0) == SANDEGMUR_NOT_ARCHIVE);
+    CHECK(sandegmur_delivery_day(0, NULL, 0, &day) == SANDEGMUR_NOT_IN_CALENDAR && day == FILL);
+    CHECK(sandegmur_delivery_day(1, NULL, 0, &day) == SANDEGMUR_NOT_REFUSED && day == 35);
     CHECK(all_are(list, 0, LIST, FILL));
     CHECK(all_are(result, 0, RESULT, FILL));
 }
@@ -372,6 +389,138 @@ static void test_show(void)
     CHECK(sandegmur_show(archive, ARCHIVE - 1, 0) == ARCHIVE - 1);
 }
 
+/* A solar plant, Pauschal, and a measure with this date, whose quarters measured nothing. Their own month and quarter of the day
+ * are none. */
+static void file_dated(uint8_t *archive, uint32_t first)
+{
+    uint8_t record[SANDEGMUR_RECORD_BYTES];
+    CHECK(sandegmur_fresh(archive, DATED_ARCHIVE) == SANDEGMUR_NOT_REFUSED);
+    sandegmur_plant(record, SANDEGMUR_SOLAR, SANDEGMUR_PAUSCHAL, 1000000);
+    CHECK(file(archive, DATED_ARCHIVE, 0, record) == SANDEGMUR_NOT_REFUSED);
+    sandegmur_dated_measure(record, SANDEGMUR_NEGATIVE, SANDEGMUR_TOLERATED, first);
+    CHECK(file(archive, DATED_ARCHIVE, 1, record) == SANDEGMUR_NOT_REFUSED);
+    sandegmur_quarter(record, 13, 255, 0, 0, 0, 0);
+    for (int i = 0; i < DATED; i++)
+        CHECK(file(archive, DATED_ARCHIVE, 2, record) == SANDEGMUR_NOT_REFUSED);
+    CHECK(sandegmur_audit(archive, DATED_ARCHIVE) == SANDEGMUR_NOT_REFUSED);
+    CHECK(sandegmur_get32(archive + sandegmur_show(archive, DATED_ARCHIVE, 2) + SANDEGMUR_MEASURE_DATE_AT) == first);
+}
+
+/* From 31 October 2026, 18:45, in summer, to 1 November, 9:15, in winter; the measure without its date is 9. */
+static void test_dated(void)
+{
+    uint8_t archive[DATED_ARCHIVE], was[DATED_ARCHIVE], list[DATED_LIST], result[RESULT];
+    memset(list, FILL, DATED_LIST);
+    memset(result, FILL, RESULT);
+    file_dated(archive, 0);
+    CHECK(settle(archive, DATED_ARCHIVE, 1, 1, list, DATED_LIST, result, SANDEGMUR_RESULT_BYTES) == SANDEGMUR_OUT_OF_RANGE);
+    CHECK(all_are(list, 0, DATED_LIST, FILL));
+    CHECK(all_are(result, 0, RESULT, FILL));
+
+    file_dated(archive, 940876);
+    memcpy(was, archive, DATED_ARCHIVE);
+    CHECK(settle(archive, DATED_ARCHIVE, 1, 1, list, DATED_LIST, result, SANDEGMUR_RESULT_BYTES) == SANDEGMUR_NOT_REFUSED);
+    for (int i = 0; i < DATED; i++)
+        CHECK(sandegmur_amount(list + SANDEGMUR_PLACE_BYTES * i) == (i == 0 ? 61400 : i == DATED - 1 ? 69900 : 0));
+    CHECK(all_are(list, DATED * SANDEGMUR_PLACE_BYTES, DATED_LIST, FILL));
+    check_result(result, DATED, 61400 + 69900, 2 + DATED);
+    CHECK(all_are(result, SANDEGMUR_RESULT_BYTES, RESULT, FILL));
+    CHECK(memcmp(archive, was, DATED_ARCHIVE) == 0);
+}
+
+/* A measure whose first or last quarter is past the last of the calendar: 18 before 13 and after 9, and every byte stays. */
+static void test_late(void)
+{
+    static const struct {
+        uint32_t first;
+        int late;
+    } dates[] = {
+        { SANDEGMUR_LAST_QUARTER - DATED + 1, 0 }, { SANDEGMUR_LAST_QUARTER - DATED + 2, 1 }, { SANDEGMUR_LAST_QUARTER, 1 },
+        { SANDEGMUR_LAST_QUARTER + 1, 1 },         { (uint32_t)INT32_MAX + 1, 1 },            { UINT32_MAX, 1 },
+    };
+    enum { SHORT = DATED * SANDEGMUR_PLACE_BYTES - 1 };
+    uint8_t archive[DATED_ARCHIVE], was[DATED_ARCHIVE], list[DATED_LIST], result[RESULT];
+    for (size_t i = 0; i < sizeof dates / sizeof dates[0]; i++) {
+        uint32_t whole = dates[i].late ? SANDEGMUR_NOT_IN_CALENDAR : SANDEGMUR_NOT_REFUSED;
+        uint32_t cut = dates[i].late ? SANDEGMUR_NOT_IN_CALENDAR : SANDEGMUR_NO_ROOM;
+        memset(list, FILL, DATED_LIST);
+        memset(result, FILL, RESULT);
+        file_dated(archive, dates[i].first);
+        memcpy(was, archive, DATED_ARCHIVE);
+        CHECK(settle(archive, DATED_ARCHIVE, 1, 1, list, SHORT, result, SANDEGMUR_RESULT_BYTES) == cut);
+        CHECK(settle(archive, DATED_ARCHIVE, 1, 1, NULL, 0, result, SANDEGMUR_RESULT_BYTES) == cut);
+        CHECK(settle(archive, DATED_ARCHIVE, 1, 1, list, DATED_LIST, result, RESULT) == cut);
+        CHECK(settle(archive, DATED_ARCHIVE, 1, 1, list, SHORT, NULL, 0) == cut);
+        CHECK(all_are(list, 0, DATED_LIST, FILL));
+        CHECK(all_are(result, 0, RESULT, FILL));
+        CHECK(settle(archive, DATED_ARCHIVE, 1, 1, list, DATED_LIST, result, SANDEGMUR_RESULT_BYTES) == whole);
+        CHECK(all_are(list, 0, DATED_LIST, FILL) == dates[i].late);
+        CHECK(all_are(result, 0, RESULT, FILL) == dates[i].late);
+        CHECK(memcmp(archive, was, DATED_ARCHIVE) == 0);
+    }
+    sandegmur_put32(archive + DATED_ARCHIVE - SANDEGMUR_RECORD_BYTES + SANDEGMUR_QUARTER_MEASURED_AT, 1000000001);
+    CHECK(settle(archive, DATED_ARCHIVE, 1, 1, list, SHORT, result, RESULT) == SANDEGMUR_OUT_OF_RANGE);
+
+    /* Also where no rule needs the date. */
+    file_case_a(archive);
+    for (uint32_t first = SANDEGMUR_LAST_QUARTER - 3; first <= SANDEGMUR_LAST_QUARTER; first++) {
+        sandegmur_put32(archive + sandegmur_show(archive, ARCHIVE, 2) + SANDEGMUR_MEASURE_DATE_AT, first);
+        CHECK(settle(archive, ARCHIVE, 1, 1, list, DATED_LIST, result, SANDEGMUR_RESULT_BYTES)
+              == (first <= SANDEGMUR_LAST_QUARTER - 2 ? SANDEGMUR_NOT_REFUSED : SANDEGMUR_NOT_IN_CALENDAR));
+    }
+}
+
+/* The call with a copy of the list between two other numbers, and the day between two others: these, the list and, if it is
+ * refused, the day stay. */
+static void check_delivery(uint64_t quarter, const uint32_t *holidays, size_t count, uint32_t number, uint64_t day)
+{
+    enum { MOST = 64 };
+    uint32_t list[MOST + 2];
+    uint64_t days[3];
+    memset(list, FILL, sizeof list);
+    memset(days, FILL, sizeof days);
+    uint64_t filled = days[0];
+    if (count > MOST)
+        abort();
+    for (size_t i = 0; i < count; i++)
+        list[1 + i] = holidays[i];
+    CHECK(sandegmur_delivery_day(quarter, list + 1, count, days + 1) == number);
+    CHECK(days[0] == filled && days[2] == filled);
+    CHECK(days[1] == (number == SANDEGMUR_NOT_REFUSED ? day : filled));
+    CHECK(list[0] == (uint32_t)filled && list[1 + count] == (uint32_t)filled);
+    for (size_t i = 0; i < count; i++)
+        CHECK(list[1 + i] == holidays[i]);
+}
+
+static void test_delivery_days(void)
+{
+    static const uint32_t fifth[] = { 9806 }, any_order[] = { 9807, 9806, 9806, 9803, 9807 };
+    /* A Saturday and a Sunday, days of the months beside it, numbers beyond the calendar, and 0. */
+    static const uint32_t no_effect[] = { UINT32_MAX, 36557, 9832, 9808, 9802, 9801, 0 };
+    static const uint64_t refused[] = { 0, SANDEGMUR_LAST_QUARTER + 1, 0x100000000, 0x100000001, UINT64_MAX };
+    uint32_t november[2 * 26];
+    /* October 2026, from its first quarter to its last, and the quarter after it: 5 November, 4 December. */
+    check_delivery(937921, NULL, 0, SANDEGMUR_NOT_REFUSED, 9806);
+    check_delivery(940896, NULL, 0, SANDEGMUR_NOT_REFUSED, 9806);
+    check_delivery(940897, NULL, 0, SANDEGMUR_NOT_REFUSED, 9835);
+    check_delivery(937921, fifth, 1, SANDEGMUR_NOT_REFUSED, 9807);
+    check_delivery(937921, any_order, 5, SANDEGMUR_NOT_REFUSED, 9811);
+    check_delivery(937921, no_effect, 7, SANDEGMUR_NOT_REFUSED, 9806);
+    /* The last quarters of 2027 and of the calendar. */
+    check_delivery(981792, NULL, 0, SANDEGMUR_NOT_REFUSED, 10233);
+    check_delivery(SANDEGMUR_LAST_QUARTER, NULL, 0, SANDEGMUR_NOT_REFUSED, 36531);
+    /* From 25 November down, each day twice: the 26th, 27th and 30th are left. From the 24th down four are, from the 26th two. */
+    for (uint32_t i = 0; i < 26; i++)
+        november[2 * i] = november[2 * i + 1] = 9827 - i;
+    check_delivery(937921, november + 2, 50, SANDEGMUR_NOT_REFUSED, 0);
+    check_delivery(937921, november + 4, 48, SANDEGMUR_NOT_REFUSED, 9831);
+    check_delivery(937921, november, 52, SANDEGMUR_NOT_REFUSED, 0);
+    for (size_t i = 0; i < sizeof refused / sizeof refused[0]; i++) {
+        check_delivery(refused[i], NULL, 0, SANDEGMUR_NOT_IN_CALENDAR, 0);
+        check_delivery(refused[i], fifth, 1, SANDEGMUR_NOT_IN_CALENDAR, 0);
+    }
+}
+
 /* Bytes in a block of just their length, so that valgrind sees an access beside them; NULL for none. */
 static uint8_t *block_of(const uint8_t *bytes, size_t length)
 {
@@ -408,6 +557,22 @@ static void test_blocks(void)
     }
 }
 
+/* Lists of every length up to that of a month and a day that nothing has written, each in a block of its own. */
+static void test_delivery_blocks(void)
+{
+    for (uint32_t count = 0; count <= 31; count++) {
+        uint32_t *list = (uint32_t *)(void *)block_of(NULL, count * sizeof *list);
+        uint64_t *day = (uint64_t *)(void *)block_of(NULL, sizeof *day);
+        for (uint32_t i = 0; i < count; i++)
+            list[i] = 9831 - i;
+        CHECK(sandegmur_delivery_day(940896, list, count, day) == SANDEGMUR_NOT_REFUSED);
+        /* Of November 2026 the days before the listed ones are left. */
+        CHECK(*day == (count <= 25 ? 9806U : 0U));
+        free(list);
+        free(day);
+    }
+}
+
 int main(void)
 {
     test_constants();
@@ -423,7 +588,11 @@ int main(void)
     test_minus();
     test_refused();
     test_show();
+    test_dated();
+    test_late();
+    test_delivery_days();
     test_blocks();
+    test_delivery_blocks();
     if (!failed)
         puts("host: every check holds");
     return failed;

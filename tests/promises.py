@@ -38,6 +38,18 @@ WORDS = ("rattle-kit-5b-plain", "097e4c862dff5811", "rt prove", "rt check", "req
 # What numbers stand in that count nothing in the tree: names of papers, sizes and numbers of the format, and what was run by hand.
 PHRASES = (
     "document 01",
+    "written from document 01, document 02 and",
+    "| request 1 |",
+    "every day number from 1 on",
+    "day 1 is a Saturday",
+    "a delivery day that isn't 0 lies",
+    "it is 0 where that month has",
+    "and refusal 18 first and last",
+    "beside 8, 9 and 13",
+    "every number of 64 bits",
+    "demand 3 holds for dated",
+    "0 where the list leaves fewer; or refusal 18",
+    "from 2000 to 2100",
     "Annex 1:",
     "| 2 | amounts",
     "| 4 of 'What every statement must say' |",
@@ -52,9 +64,9 @@ PHRASES = (
     "32 bytes, in the lent block at 32 × number",
     "64 KiB",
     "65,536 bytes and one more",
-    "1,000,000 calls of seed 2 and 800 inputs of seed 7",
-    "code of landing 5",
+    "1,000,000 calls of seed 2 with the code of landing 5, of seed 4 with that of landing 8, and 800 inputs of seed 7",
     "the pages of landing 5",
+    "the pages of landing 8",
     "landing 6, has what it showed",
     "parts of 1,000 bytes",
     "a status of 0 or 1",
@@ -73,7 +85,7 @@ CLAUSE = re.compile(r"^    (requires|ensures) (.*?)(?=^    (?:requires|ensures) 
 ROW = re.compile(r"^\|(?!---)(.*)\|$", re.M)
 TABLE = re.compile(r"(?<=\n\| Crate \| Text changed in \| Labels \|\n\|---\|---\|---\|\n)(?:\|.*\n)+")
 FIXED = [(phrase, re.compile(re.escape(phrase).replace(r"\ ", r"\s+"))) for phrase in PHRASES]
-STATEMENTS = ("rules/specs/Demands.antt", "rules/specs/Figures.antt")
+STATEMENTS = ("rules/specs/Demands.antt", "rules/specs/Figures.antt", "rules/specs/DateFigures.antt")
 
 
 class Function(NamedTuple):

@@ -16,14 +16,18 @@ enum {
     FILL = 0xa5,
     POINTS = 1001,
     PAGE = 4096,
+    OCTOBER = 940000, /* late in October 2026 */
+    HOLIDAYS = 40,
     RECORDS = 3 + POINTS + SANDEGMUR_MOST_BEFORE_QUARTERS + SANDEGMUR_MOST_QUARTERS + 2,
     ARCHIVE = RECORDS * SANDEGMUR_RECORD_BYTES
 };
 
-enum call { SETTLE, SETTLE_BY_NAME, AUDIT, FRESH, APPEND, SHOW };
+enum call { SETTLE, SETTLE_BY_NAME, AUDIT, FRESH, APPEND, SHOW, DELIVERY_DAY };
 
 static uint8_t archive[ARCHIVE], list[SANDEGMUR_MOST_QUARTERS * SANDEGMUR_PLACE_BYTES], result[SANDEGMUR_RESULT_BYTES];
 static uint8_t record[SANDEGMUR_RECORD_BYTES];
+static uint32_t holidays[HOLIDAYS];
+static uint64_t day;
 static uint8_t stack[STACK];
 static ucontext_t outside, inside;
 static enum call call;
@@ -53,6 +57,9 @@ static void run(void)
     case SHOW:
         answer = sandegmur_show(archive, ARCHIVE, 0);
         break;
+    case DELIVERY_DAY:
+        answer = sandegmur_delivery_day(OCTOBER, holidays, HOLIDAYS, &day);
+        break;
     }
 }
 
@@ -78,14 +85,15 @@ static long taken(enum call which, uint64_t expected)
     return (long)(top - (uintptr_t)lowest);
 }
 
-/* A plant with a point for every speed, and a measure with as many before-quarters and quarters as there may be. */
-static int file_plant(uint8_t technology, uint8_t variant)
+/* A plant with a point for every speed, and a measure with as many before-quarters and quarters as there may be, dated or, with 0,
+ * not. */
+static int file_plant(uint8_t technology, uint8_t variant, uint32_t first)
 {
     uint32_t refused = sandegmur_fresh(archive, ARCHIVE);
     sandegmur_plant(record, technology, variant, 2000000);
     refused |= sandegmur_append(archive, ARCHIVE, 0, record, sizeof record);
     uint64_t measure = sandegmur_used(archive, ARCHIVE);
-    sandegmur_measure(record, SANDEGMUR_NEGATIVE, SANDEGMUR_REQUESTED);
+    sandegmur_dated_measure(record, SANDEGMUR_NEGATIVE, SANDEGMUR_REQUESTED, first);
     refused |= sandegmur_append(archive, ARCHIVE, 1, record, sizeof record);
     for (int i = 0; i < POINTS; i++) {
         sandegmur_curve_point(record, i, 2000 * i);
@@ -117,19 +125,23 @@ int main(void)
 {
     long most = 0;
     for (uint8_t technology = SANDEGMUR_WIND; technology <= SANDEGMUR_OTHER; technology++)
-        for (uint8_t variant = SANDEGMUR_SPITZ; variant <= SANDEGMUR_PAUSCHAL; variant++) {
-            if (!file_plant(technology, variant))
-                return 1;
-            long bytes = taken(SETTLE, SANDEGMUR_NOT_REFUSED), by_name = taken(SETTLE_BY_NAME, SANDEGMUR_NOT_REFUSED);
-            if (bytes < 0 || by_name < 0)
-                return 1;
-            most = bytes > most ? bytes : most;
-            most = by_name > most ? by_name : most;
-        }
+        for (uint8_t variant = SANDEGMUR_SPITZ; variant <= SANDEGMUR_PAUSCHAL; variant++)
+            for (int dated = 0; dated < 2; dated++) {
+                if (!file_plant(technology, variant, dated ? OCTOBER : 0))
+                    return 1;
+                long bytes = taken(SETTLE, SANDEGMUR_NOT_REFUSED), by_name = taken(SETTLE_BY_NAME, SANDEGMUR_NOT_REFUSED);
+                if (bytes < 0 || by_name < 0)
+                    return 1;
+                most = bytes > most ? bytes : most;
+                most = by_name > most ? by_name : most;
+            }
     hold("settle", most, SANDEGMUR_SETTLE_STACK, SANDEGMUR_SETTLE_STACK - PAGE);
     hold("audit", taken(AUDIT, SANDEGMUR_NOT_REFUSED), SANDEGMUR_AUDIT_STACK, SANDEGMUR_AUDIT_STACK - PAGE);
     hold("show", taken(SHOW, 0), SANDEGMUR_OTHER_STACK, 1);
     hold("append", taken(APPEND, SANDEGMUR_NOT_REFUSED), SANDEGMUR_OTHER_STACK, 1);
+    for (uint32_t i = 0; i < HOLIDAYS; i++)
+        holidays[i] = 9800 + i;
+    hold("delivery_day", taken(DELIVERY_DAY, SANDEGMUR_NOT_REFUSED), SANDEGMUR_OTHER_STACK, 1);
     hold("fresh", taken(FRESH, SANDEGMUR_NOT_REFUSED), SANDEGMUR_OTHER_STACK, 1);
     return failed;
 }

@@ -20,6 +20,8 @@ pub const NEXT: usize = 4;
 pub const FIRST: usize = 8;
 /// Place of the second first link in plant (measures) and measure (quarters).
 pub const SECOND: usize = 12;
+/// Place of a measure's first quarter as a number of the calendar.
+pub const DATE: usize = 16;
 
 /// The 32 bytes of record `number`.
 pub fn record(archive: &[u8], number: u64) -> &[u8] {
@@ -27,7 +29,7 @@ pub fn record(archive: &[u8], number: u64) -> &[u8] {
     &archive[start..start + RECORD]
 }
 
-/// A link (or U): unsigned 32 bits, little-endian.
+/// A link (or U, or a measure's date): unsigned 32 bits, little-endian.
 pub fn link(record: &[u8], at: usize) -> u64 {
     u64::from(u32::from_le_bytes([record[at], record[at + 1], record[at + 2], record[at + 3]]))
 }

@@ -31,6 +31,8 @@ pub struct Quarter {
 pub struct Measure {
     pub direction: u8,
     pub execution: u8,
+    /// Number of its first quarter, 0 if it is undated.
+    pub first: u32,
     pub before: Vec<Before>,
     pub quarters: Vec<Quarter>,
 }
@@ -170,6 +172,7 @@ pub fn measure_record(measure: &Measure, rng: &mut Rng, noise: bool) -> [u8; REC
     let mut bytes = blank(MEASURE, rng, noise);
     bytes[1] = measure.direction;
     bytes[2] = measure.execution;
+    bytes[DATE..DATE + 4].copy_from_slice(&measure.first.to_le_bytes());
     bytes
 }
 
@@ -318,6 +321,7 @@ pub fn case_a() -> Plant {
     let measure = Measure {
         direction: 2,
         execution: 2,
+        first: 0,
         before: vec![Before { mark: 1, measured: 800_000, weather: 0 }],
         quarters: [500_001, 500_001, 500_002].map(quarter).to_vec(),
     };

@@ -3,6 +3,7 @@
 //! Short measures are booked with a small store and a walk along the curve's points; longer ones go on with a table
 //! of 1,001 powers and a store for 2,976 amounts. Nothing goes to the list before the last test.
 
+use crate::calendar::LAST;
 use crate::program::MOST_BYTES;
 use crate::settle::Answer;
 use std::io::{self, Write};
@@ -199,8 +200,116 @@ impl<'a> Curve<'a> {
     }
 }
 
+/// A day of the calendar.
+#[derive(Clone, Copy)]
+struct Date {
+    year: u32,
+    month: u32,
+    day: u32,
+}
+
+impl Date {
+    /// The date of a day's number by constant work. Years start with March here, so that a leap day ends one.
+    #[inline]
+    fn of(day: u32) -> Date {
+        // Days from 1 March 1600 on, by cycles of 400 years.
+        let days = day + 146_097 - 61;
+        let (cycle, days) = (days / 146_097, days % 146_097);
+        let years = (days - days / 1_460 + days / 36_524 - days / 146_096) / 365;
+        let days = days - (365 * years + years / 4 - years / 100);
+        let months = (5 * days + 2) / 153;
+        let (month, over) = if months < 10 { (months + 3, 0) } else { (months - 9, 1) };
+        Date { year: 1600 + 400 * cycle + years + over, month, day: days - (153 * months + 2) / 5 + 1 }
+    }
+
+    /// Days of its month.
+    #[inline]
+    fn days(self) -> u32 {
+        let leap = self.year % 4 == 0 && (self.year % 100 != 0 || self.year % 400 == 0);
+        match self.month {
+            2 => 28 + u32::from(leap),
+            month => 30 + ((month ^ (month >> 3)) & 1),
+        }
+    }
+
+    /// The first of the next month.
+    #[inline]
+    fn next_month(self) -> Date {
+        if self.month == 12 {
+            Date { year: self.year + 1, month: 1, day: 1 }
+        } else {
+            Date { month: self.month + 1, day: 1, ..self }
+        }
+    }
+
+    #[inline]
+    fn next(self) -> Date {
+        if self.day == self.days() {
+            self.next_month()
+        } else {
+            Date { day: self.day + 1, ..self }
+        }
+    }
+}
+
+/// Factors of solar Pauschal from a dated quarter on.
+struct Clock {
+    date: Date,
+    time: usize,
+    row: &'static [u16; 96],
+}
+
+impl Clock {
+    #[inline(always)]
+    fn at(number: u64) -> Clock {
+        let (day, time) = ((number - 1) / 96, (number - 1) % 96);
+        let date = Date::of(day as u32 + 1);
+        Clock { date, time: time as usize, row: factors(date.month as u8) }
+    }
+
+    /// The quarter's factor, and a step to the next one.
+    #[inline(always)]
+    fn factor(&mut self) -> i64 {
+        let factor = self.row[self.time];
+        self.time += 1;
+        if self.time == 96 {
+            self.time = 0;
+            self.date = self.date.next();
+            self.row = factors(self.date.month as u8);
+        }
+        i64::from(factor)
+    }
+}
+
+/// Days that are a Saturday or Sunday, counted from a Monday.
+const WEEKENDS: u64 = 0b1100000_1100000_1100000_1100000_1100000_1100000;
+
+/// The delivery day, with a bit for each day of the next month.
+pub fn delivery_day(quarter: u64, holidays: &[u32]) -> Result<u64, u32> {
+    if quarter == 0 || quarter > LAST.0 {
+        return Err(18);
+    }
+    let day = (quarter as u32 - 1) / 96 + 1;
+    let date = Date::of(day);
+    let first = day - date.day + date.days() + 1;
+    let weekday = (first + 4) % 7;
+    let mut working = !(WEEKENDS >> weekday) as u32 & (u32::MAX >> (32 - date.next_month().days()));
+    for &holiday in holidays {
+        let at = holiday.wrapping_sub(first);
+        if at < 32 {
+            working &= !(1 << at);
+        }
+    }
+    for _ in 0..3 {
+        working &= working.wrapping_sub(1);
+    }
+    Ok(if working == 0 { 0 } else { u64::from(first + working.trailing_zeros()) })
+}
+
 /// Where the walk over the quarters stands.
 struct Walk {
+    /// The measure's date.
+    first: u32,
     holder: u32,
     to: u32,
     count: usize,
@@ -265,7 +374,7 @@ fn book(
     store: &mut [i64],
     sign: i64,
     divide: impl Divide,
-    magnitude: impl Fn(&Record) -> Option<i64>,
+    mut magnitude: impl FnMut(&Record) -> Option<i64>,
 ) -> Result<(), u32> {
     let (mut holder, mut to, mut count) = (walk.holder, walk.to, walk.count);
     let (mut remainder, mut total) = (walk.remainder, walk.total);
@@ -289,7 +398,7 @@ fn book(
         store[count] = amount;
         count += 1;
     }
-    *walk = Walk { holder, to, count, remainder, total, wide: false };
+    *walk = Walk { holder, to, count, remainder, total, ..*walk };
     Ok(())
 }
 
@@ -308,7 +417,7 @@ fn rest(records: Records, walk: &mut Walk, mut holder: u32, mut to: u32, mut cou
     Ok(())
 }
 
-/// 8 and 9 of the quarters, then 13 and the writing.
+/// 8 and 9 of the quarters, then 18, then 13 and the writing.
 #[inline(always)]
 fn finish(walk: &Walk, store: &[i64], links: u64, write: impl FnOnce(&[i64]) -> bool) -> Answer {
     if walk.count == 0 || walk.count > MOST_QUARTERS {
@@ -317,6 +426,9 @@ fn finish(walk: &Walk, store: &[i64], links: u64, write: impl FnOnce(&[i64]) -> 
     if walk.wide {
         return Answer::refused(9);
     }
+    if walk.first != 0 && u64::from(walk.first) + walk.count as u64 > LAST.0 + 1 {
+        return Answer::refused(18);
+    }
     if !write(&store[..walk.count]) {
         return Answer::refused(13);
     }
@@ -324,22 +436,24 @@ fn finish(walk: &Walk, store: &[i64], links: u64, write: impl FnOnce(&[i64]) -> 
 }
 
 /// The quarters of one measure: a small store first, the large one only behind it. `late` is the same rule as
-/// `early`, made for many quarters.
+/// `early`, made for many quarters behind so many.
 #[inline(always)]
 #[allow(clippy::too_many_arguments)]
-fn quarters<L: Fn(&Record) -> Option<i64>>(
+fn quarters<L: FnMut(&Record) -> Option<i64>>(
     records: Records,
     measure: u32,
     sign: i64,
     links: u64,
     divide: impl Divide,
-    early: Option<impl Fn(&Record) -> Option<i64>>,
-    late: impl FnOnce() -> L,
+    early: Option<impl FnMut(&Record) -> Option<i64>>,
+    late: impl FnOnce(usize) -> L,
     write: impl FnOnce(&[i64]) -> bool,
 ) -> Answer {
+    let own = &records[measure as usize];
     let mut walk = Walk {
+        first: link(own, 16),
         holder: measure,
-        to: link(&records[measure as usize], 12),
+        to: link(own, 12),
         count: 0,
         remainder: 0,
         total: 0,
@@ -359,19 +473,20 @@ fn quarters<L: Fn(&Record) -> Option<i64>>(
 
 #[inline(never)]
 #[allow(clippy::too_many_arguments)]
-fn many<L: Fn(&Record) -> Option<i64>>(
+fn many<L: FnMut(&Record) -> Option<i64>>(
     records: Records,
     mut walk: Walk,
     small: [i64; SMALL],
     sign: i64,
     links: u64,
     divide: impl Divide,
-    late: impl FnOnce() -> L,
+    late: impl FnOnce(usize) -> L,
     write: impl FnOnce(&[i64]) -> bool,
 ) -> Answer {
     let mut large = [0; MOST_QUARTERS];
     large[..SMALL].copy_from_slice(&small);
-    let mut walked = book(records, &mut walk, &mut large, sign, divide, late());
+    let rule = late(walk.count);
+    let mut walked = book(records, &mut walk, &mut large, sign, divide, rule);
     if walked.is_ok() && walk.to != 0 {
         let (holder, to, count) = (walk.holder, walk.to, walk.count);
         walked = rest(records, &mut walk, holder, to, count);
@@ -399,7 +514,9 @@ fn limitation(quarter: &Record, requested: bool, positive: bool) -> Option<i64> 
     Some(if positive { measured.min(limit) } else { measured.max(limit) } as i64)
 }
 
-fn factor(month: u8, quarter: u8) -> i64 {
+/// Factors of a month's days.
+#[inline(always)]
+fn factors(month: u8) -> &'static [u16; 96] {
     const fn row(summer: bool) -> [u16; 96] {
         let mut row = [0; 96];
         let mut at = 0;
@@ -417,8 +534,11 @@ fn factor(month: u8, quarter: u8) -> i64 {
     }
     static SUMMER: [u16; 96] = row(true);
     static WINTER: [u16; 96] = row(false);
-    let row = if (3..=10).contains(&month) { &SUMMER } else { &WINTER };
-    i64::from(row[quarter as usize])
+    if (3..=10).contains(&month) {
+        &SUMMER
+    } else {
+        &WINTER
+    }
 }
 
 /// What the before-quarters give.
@@ -528,7 +648,7 @@ fn settled(archive: &[u8], p: u64, k: u64, write: impl FnOnce(&[i64]) -> bool) -
                 let speed = int(quarter, 16);
                 weather_ok(speed, 1_000).then(|| (a * curve.power(speed)).min(cap) - l * b)
             };
-            let by_table = move || {
+            let by_table = move |_| {
                 let table = curve.table();
                 move |quarter: &Record| {
                     let l = limitation(quarter, requested, false)?;
@@ -559,7 +679,19 @@ fn settled(archive: &[u8], p: u64, k: u64, write: impl FnOnce(&[i64]) -> bool) -
                 weather_ok(weather, 2_000).then(|| a * weather as i64 - l * b)
             };
             let divide = Reciprocal::new(4 * b as u64);
-            Ok(quarters(records, measure_number, 1, links, divide, Some(rule), || rule, write))
+            Ok(quarters(records, measure_number, 1, links, divide, Some(rule), |_| rule, write))
+        }
+        (2, _) if link(measure, 16) != 0 => {
+            let first = u64::from(link(measure, 16));
+            let rule_from = |mut clock: Clock| {
+                move |quarter: &Record| {
+                    let l = limitation(quarter, requested, false)?;
+                    Some(nominal * clock.factor() - l * 10_000)
+                }
+            };
+            let early = Some(rule_from(Clock::at(first)));
+            let late = |booked: usize| rule_from(Clock::at(first + booked as u64));
+            Ok(quarters(records, measure_number, 1, links, Fixed::<40_000>, early, late, write))
         }
         (2, _) => {
             let rule = move |quarter: &Record| {
@@ -567,9 +699,9 @@ fn settled(archive: &[u8], p: u64, k: u64, write: impl FnOnce(&[i64]) -> bool) -
                 if !(1..=12).contains(&quarter[1]) || quarter[2] > 95 {
                     return None;
                 }
-                Some(nominal * factor(quarter[1], quarter[2]) - l * 10_000)
+                Some(nominal * i64::from(factors(quarter[1])[quarter[2] as usize]) - l * 10_000)
             };
-            Ok(quarters(records, measure_number, 1, links, Fixed::<40_000>, Some(rule), || rule, write))
+            Ok(quarters(records, measure_number, 1, links, Fixed::<40_000>, Some(rule), |_| rule, write))
         }
         (3, 1) => {
             let rule = move |quarter: &Record| {
@@ -579,7 +711,7 @@ fn settled(archive: &[u8], p: u64, k: u64, write: impl FnOnce(&[i64]) -> bool) -
                 power_ok(planned).then_some(if positive { -difference } else { difference })
             };
             let sign = if positive { -1 } else { 1 };
-            Ok(quarters(records, measure_number, sign, links, Fixed::<4>, Some(rule), || rule, write))
+            Ok(quarters(records, measure_number, sign, links, Fixed::<4>, Some(rule), |_| rule, write))
         }
         _ => {
             let (found, usable) = before(records, measure_number, 1, |one| {
@@ -596,7 +728,7 @@ fn settled(archive: &[u8], p: u64, k: u64, write: impl FnOnce(&[i64]) -> bool) -
                 Some(if positive { -difference } else { difference })
             };
             let sign = if positive { -1 } else { 1 };
-            Ok(quarters(records, measure_number, sign, links, Fixed::<4>, Some(rule), || rule, write))
+            Ok(quarters(records, measure_number, sign, links, Fixed::<4>, Some(rule), |_| rule, write))
         }
     }
 }

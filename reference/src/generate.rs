@@ -1,9 +1,11 @@
-//! Seeded calls on document 01's archive: valid ones, one fault, several faults, mutations and noise.
+//! Seeded calls on document 01's archive and request 1's calendar: valid ones, one fault, several faults, mutations and
+//! noise.
 //!
 //! Every seed and index gives one call, the same everywhere.
 
 use crate::archive::*;
 use crate::builder::*;
+use crate::calendar::{self, Day, QuarterHour, LAST};
 use crate::rng::Rng;
 use crate::settle::{curve_power, Pairing};
 
@@ -15,14 +17,16 @@ pub enum Call {
     Append { archive: Vec<u8>, owner: u64, record: Vec<u8> },
     Show { archive: Vec<u8>, number: u64 },
     Audit { archive: Vec<u8> },
+    DeliveryDay { quarter: u64, holidays: Vec<u32> },
 }
 
 /// The numbers that each call can give.
-pub const NUMBERS: [(&str, &[Refusal]); 4] = [
-    ("settle", &[0, 1, 2, 3, 4, 5, 6, 7, 8, 9, 10, 11, 12, 13]),
+pub const NUMBERS: [(&str, &[Refusal]); 5] = [
+    ("settle", &[0, 1, 2, 3, 4, 5, 6, 7, 8, 9, 10, 11, 12, 13, 18]),
     ("append", &[0, 1, 2, 3, 14, 15, 16]),
     ("audit", &[0, 1, 2, 3, 17]),
     ("fresh", &[0, 1]),
+    ("delivery day", &[0, 18]),
 ];
 
 /// The pairings and directions that can settle, each in executions 1 to 3.
@@ -48,11 +52,12 @@ pub struct Case {
 pub fn call(seed: u64, index: u64) -> Case {
     let mut rng = Rng::new(seed, index);
     match rng.below(100) {
-        0..=61 => settle_case(&mut rng),
-        62..=79 => append_case(&mut rng),
-        80..=91 => audit_case(&mut rng),
-        92..=96 => show_case(&mut rng),
-        _ => fresh_case(&mut rng),
+        0..=57 => settle_case(&mut rng),
+        58..=74 => append_case(&mut rng),
+        75..=85 => audit_case(&mut rng),
+        86..=90 => show_case(&mut rng),
+        91..=93 => fresh_case(&mut rng),
+        _ => delivery_case(&mut rng),
     }
 }
 
@@ -109,6 +114,8 @@ pub enum Fault {
     // 13
     List,
     ResultPart,
+    // 18
+    Late,
 }
 
 use Chain::{Curve, Measures, Plants, Quarters};
@@ -119,10 +126,10 @@ const FAULTS: &[Fault] = &[
     Length, Text, Used, Link(Plants), Link(Measures), Link(Curve), Link(Chain::Before), Link(Quarters), Kind(Plants),
     Kind(Measures), Kind(Curve), Kind(Chain::Before), Kind(Quarters), NoPlant, NoMeasure, Technology, Variant, Nominal,
     Direction, Execution, Positive, NoQuarter, ManyQuarters, ManyBefore, CurveField, BeforeMark, BeforeMeasured,
-    BeforeWeather, QuarterField, FewPoints, NotRising, FewUsable, ZeroB, List, ResultPart,
+    BeforeWeather, QuarterField, FewPoints, NotRising, FewUsable, ZeroB, List, ResultPart, Late,
 ];
 
-/// Pairs of faults whose order document 01 and the decisions fix.
+/// Pairs of faults whose order document 01 and the decisions fix. Pairs with a late date are made apart from these.
 #[rustfmt::skip]
 const PAIRS: &[(Fault, Fault)] = &[
     (NoPlant, Link(Plants)), (NoPlant, Kind(Plants)), (NoMeasure, Link(Measures)), (NoMeasure, Kind(Measures)),
@@ -159,6 +166,7 @@ impl Fault {
             FewUsable => 11,
             ZeroB => 12,
             List | ResultPart => 13,
+            Late => 18,
         }
     }
 
@@ -260,6 +268,56 @@ fn speed(rng: &mut Rng, curve: &[Point]) -> i32 {
         _ => low,
     };
     value.clamp(0, 1_000) as i32
+}
+
+/// A month of the calendar: those beside edges of seasons, leap days and ends of years often.
+fn month(rng: &mut Rng) -> (u64, u8) {
+    let year = match rng.below(3) {
+        0 => rng.pick(&[2000, 2001, 2024, 2026, 2027, 2028, 2096, 2098, 2099]),
+        1 => 2000 + 4 * rng.below(25) as u64,
+        _ => 2000 + rng.below(100) as u64,
+    };
+    let month = if rng.chance(70) { rng.pick(&[1, 2, 3, 10, 11, 12]) } else { rng.range(1, 12) as u8 };
+    (year, month)
+}
+
+/// The first quarter of a measure of so many, all of them in the calendar.
+fn dated(rng: &mut Rng, count: usize) -> u32 {
+    let count = count.max(1) as i64;
+    let latest = LAST.0 as i64 + 1 - count;
+    let (year, mut month) = month(rng);
+    if count > 60 && rng.chance(60) {
+        month = rng.pick(&[3, 11]);
+    }
+    let edge = calendar::first_day(year, month).midnight().0 as i64;
+    let time = rng.pick(&[23, 24, 35, 36, 39, 40, 55, 59, 60, 66, 67, 75]) - rng.range(0, 2);
+    let first = match rng.below(20) {
+        0 => 1,
+        1..=3 => latest,
+        4 => rng.range(1, latest),
+        // Over midnight, on the day before the month, its first day, or another one.
+        5..=8 => edge - rng.range(1, count),
+        9..=12 => edge - 96 + time,
+        13..=16 => edge + time,
+        _ => edge + 96 * rng.range(-3, 30) + time,
+    };
+    first.clamp(1, latest) as u32
+}
+
+/// The first quarter of a measure of so many, the first or only the last of them behind the calendar's end.
+fn late(rng: &mut Rng, count: usize) -> u32 {
+    let (last, count) = (LAST.0 as i64, count as i64);
+    let first = match rng.below(10) {
+        0 | 1 => last + 1,
+        2 => 1 << 31,
+        3 => rng.range((1 << 31) - 2, (1 << 31) + 2),
+        4 => i64::from(u32::MAX),
+        5 | 6 if count > 1 => (1 << 32) - rng.range(1, count),
+        7 if count > 1 => last + 2 - count,
+        8 if count > 1 => rng.range(last + 2 - count, last),
+        _ => rng.range(last + 1, i64::from(u32::MAX)),
+    };
+    first as u32
 }
 
 /// A place (of a plant or measure) beyond those that exist.
@@ -517,7 +575,7 @@ fn tested(pairing: Pairing, plant: &Plant, before: &[Before], weather: bool) -> 
     positions
 }
 
-fn quarter(rng: &mut Rng, plant: &Plant, pairing: Pairing, execution: u8, dirty: bool) -> Quarter {
+fn quarter(rng: &mut Rng, plant: &Plant, pairing: Pairing, execution: u8, dated: bool, dirty: bool) -> Quarter {
     let month = if rng.chance(50) { rng.pick(&[2, 3, 10, 11]) } else { rng.range(1, 12) as u8 };
     let time = if rng.chance(60) {
         rng.pick(&[0, 23, 24, 35, 36, 39, 40, 55, 56, 59, 60, 66, 67, 68, 75, 76, 95])
@@ -532,8 +590,10 @@ fn quarter(rng: &mut Rng, plant: &Plant, pairing: Pairing, execution: u8, dirty:
         weather: 0,
         planned: power(rng, plant.nominal),
     };
-    if pairing != Pairing::SolarPauschal && dirty && rng.chance(70) {
-        (made.month, made.time) = (rng.word() as u8, rng.word() as u8);
+    if (pairing != Pairing::SolarPauschal || dated) && dirty && rng.chance(70) {
+        let (month, time) = (rng.word() as u8, rng.word() as u8);
+        made.month = rng.pick(&[0, 13, 255, month, month]);
+        made.time = rng.pick(&[96, 255, time, time]);
     }
     if execution != 1 {
         made.limit = unneeded(rng, dirty, made.limit);
@@ -550,7 +610,7 @@ fn quarter(rng: &mut Rng, plant: &Plant, pairing: Pairing, execution: u8, dirty:
 }
 
 /// A needed field of a quarter moved out of its range.
-fn break_quarter(rng: &mut Rng, quarter: &mut Quarter, pairing: Pairing, execution: u8) {
+fn break_quarter(rng: &mut Rng, quarter: &mut Quarter, pairing: Pairing, execution: u8, dated: bool) {
     let mut fields = vec![0];
     if execution == 1 {
         fields.push(1);
@@ -559,7 +619,7 @@ fn break_quarter(rng: &mut Rng, quarter: &mut Quarter, pairing: Pairing, executi
         Pairing::WindSpitz => fields.push(2),
         Pairing::SolarSpitz => fields.push(3),
         Pairing::OtherSpitz => fields.push(4),
-        Pairing::SolarPauschal => fields.extend([5, 6]),
+        Pairing::SolarPauschal if !dated => fields.extend([5, 6]),
         _ => {}
     }
     match rng.pick(&fields) {
@@ -590,7 +650,7 @@ fn make_measure(
     size: Size,
 ) -> Measure {
     let execution = rng.range(1, 3) as u8;
-    let mut measure = Measure { direction, execution, before: Vec::new(), quarters: Vec::new() };
+    let mut measure = Measure { direction, execution, first: 0, before: Vec::new(), quarters: Vec::new() };
 
     let mut count = match rng.below(100) {
         0..=4 if size == Size::Any => 96,
@@ -654,6 +714,10 @@ fn make_measure(
         41..=200 if size == Size::Any => rng.range(12, 60),
         _ => rng.range(1, if size == Size::Any { 11 } else { 5 }),
     } as usize;
+    if pairing == Pairing::SolarPauschal && size == Size::Any && rng.chance(8) {
+        // Daylight on both sides of midnight.
+        count = rng.range(80, 250) as usize;
+    }
     if faults.contains(&ManyQuarters) {
         count = match rng.below(50) {
             0..=39 => 2_977,
@@ -664,10 +728,16 @@ fn make_measure(
     if faults.contains(&NoQuarter) {
         count = 0;
     }
-    measure.quarters = (0..count).map(|_| quarter(rng, plant, pairing, execution, dirty)).collect();
+    if faults.contains(&Late) {
+        measure.first = late(rng, count);
+    } else if rng.chance(45) {
+        measure.first = dated(rng, count);
+    }
+    let dated = measure.first != 0;
+    measure.quarters = (0..count).map(|_| quarter(rng, plant, pairing, execution, dated, dirty)).collect();
     if faults.contains(&QuarterField) && count > 0 {
         let at = if rng.chance(40) { count - 1 } else { rng.below(count) };
-        break_quarter(rng, &mut measure.quarters[at], pairing, execution);
+        break_quarter(rng, &mut measure.quarters[at], pairing, execution, dated);
     }
 
     if faults.contains(&Direction) {
@@ -963,17 +1033,20 @@ fn noise(rng: &mut Rng) -> Vec<u8> {
 
 fn choose_faults(rng: &mut Rng, pairing: Pairing, count: usize) -> Vec<Fault> {
     let fit = |fault: &Fault| fault.fits(pairing);
+    let all: Vec<Fault> = FAULTS.iter().copied().filter(fit).collect();
     let mut faults = Vec::new();
-    if count >= 2 && rng.chance(60) {
+    let pair = if count < 2 { 100 } else { rng.below(100) };
+    if pair < 55 {
         let pairs: Vec<(Fault, Fault)> = PAIRS.iter().copied().filter(|(a, b)| fit(a) && fit(b)).collect();
         let (a, b) = rng.pick(&pairs);
         faults.extend([a, b]);
+    } else if pair < 80 {
+        faults.push(Late);
     }
-    let all: Vec<Fault> = FAULTS.iter().copied().filter(fit).collect();
     while faults.len() < count {
         let fault = rng.pick(&all);
         // Chains over their limit are long, so one in three of them is enough.
-        if fault == ManyQuarters && rng.chance(66) {
+        if (fault == ManyQuarters && rng.chance(66)) || (fault == Late && faults.contains(&Late)) {
             continue;
         }
         faults.push(fault);
@@ -1020,7 +1093,7 @@ fn extreme(rng: &mut Rng) -> (Plant, Pairing) {
             quarter.weather -= rng.below(2) as i32;
         }
     }
-    plant.measures.push(Measure { direction: 2, execution: rng.range(1, 3) as u8, before, quarters });
+    plant.measures.push(Measure { direction: 2, execution: rng.range(1, 3) as u8, first: 0, before, quarters });
     (plant, pairing)
 }
 
@@ -1028,7 +1101,7 @@ fn extreme(rng: &mut Rng) -> (Plant, Pairing) {
 fn longest(rng: &mut Rng) -> Filed {
     let quarter = Quarter { month: 6, time: 40, measured: 5, limit: 5, weather: 5, planned: 7 };
     let fill = if rng.chance(50) { MOST_RECORDS - 3 } else { rng.range(1, 40) as usize };
-    let measure = Measure { direction: 2, execution: 2, before: Vec::new(), quarters: vec![quarter; fill] };
+    let measure = Measure { direction: 2, execution: 2, first: 0, before: Vec::new(), quarters: vec![quarter; fill] };
     let plant = Plant { technology: 3, variant: 1, nominal: 100_000, curve: Vec::new(), measures: vec![measure] };
     file(&[plant], &Layout { spare: MOST_RECORDS - 3 - fill, ..Layout::PLAIN }, rng)
 }
@@ -1141,6 +1214,8 @@ fn settle_case(rng: &mut Rng) -> Case {
     let mut expected = match faults.as_slice() {
         [] => Some(0),
         [fault] => Some(fault.number()),
+        // 18 stands behind all others but 13.
+        [other, Late] | [Late, other] => Some(if other.number() == 13 { 18 } else { other.number() }),
         _ => None,
     };
     if mode >= 930 {
@@ -1246,6 +1321,12 @@ fn small_sheet(rng: &mut Rng, dirty: bool) -> Vec<Plant> {
             measure.before = vec![mark; rng.pick(&[0, 96, 97])];
         }
     }
+    if rng.chance(10) {
+        // A date that only settle looks at.
+        if let Some(measure) = plants.iter_mut().flat_map(|plant| &mut plant.measures).next() {
+            measure.first = late(rng, measure.quarters.len());
+        }
+    }
     plants
 }
 
@@ -1275,7 +1356,8 @@ fn append_case(rng: &mut Rng) -> Case {
             if plant.measures.is_empty() {
                 let before = Before { mark: 1, measured: 3, weather: 3 };
                 let quarters = vec![Quarter::default(); rng.below(4)];
-                let measure = Measure { direction: 2, execution: 2, before: vec![before; rng.below(4)], quarters };
+                let before = vec![before; rng.below(4)];
+                let measure = Measure { direction: 2, execution: 2, first: rng.word() as u32, before, quarters };
                 plant.measures.push(measure);
             }
             plants.push(plant);
@@ -1599,6 +1681,86 @@ fn fresh_case(rng: &mut Rng) -> Case {
 }
 
 // ---------------------------------------------------------------------------------------------------------------
+// Delivery day
+
+/// A quarter's number, most of them in the calendar.
+fn quarter_number(rng: &mut Rng) -> u64 {
+    let (year, month) = month(rng);
+    let first = calendar::first_day(year, month);
+    let next = Day(first.0 + calendar::days_of_month(year, month));
+    match rng.below(20) {
+        0 => 0,
+        1 => rng.pick(&[1, 2, 96, 97, 2_975, 2_976, 2_977]),
+        2 | 3 => rng.pick(&[LAST.0 - 1, LAST.0, LAST.0]),
+        4 => rng.pick(&[LAST.0 + 1, LAST.0 + 2, 1 << 31, u64::from(u32::MAX)]),
+        5 => rng.pick(&[1 << 32, 1 << 63, u64::MAX]),
+        // In the calendar if cut to 32 bits.
+        6 => (rng.word() << 32 | 1 << 40) + 1 + rng.word() % LAST.0,
+        7 => rng.word(),
+        8..=10 => first.midnight().0,
+        11..=14 => next.midnight().0 - 1,
+        _ => 1 + rng.word() % LAST.0,
+    }
+}
+
+/// Puts a list in any order.
+fn shuffle<T>(rng: &mut Rng, list: &mut [T]) {
+    for at in 1..list.len() {
+        list.swap(at, rng.below(at + 1));
+    }
+}
+
+/// Days of a month that leave so many working days, if it has as many.
+fn leaving(rng: &mut Rng, days: &[Day], left: usize) -> Vec<Day> {
+    let mut working: Vec<Day> = days.iter().copied().filter(|day| day.weekday() <= 5).collect();
+    shuffle(rng, &mut working);
+    working.split_off(left.min(working.len()))
+}
+
+/// A list for the month of these days, of up to 40 numbers.
+fn holidays(rng: &mut Rng, days: &[Day]) -> Vec<u32> {
+    let chosen: Vec<Day> = match rng.below(10) {
+        0 | 1 => vec![],
+        2..=5 => {
+            let left = rng.pick(&[0, 1, 3, 3, 4, 4, 5]);
+            leaving(rng, days, left)
+        }
+        6 => days.to_vec(),
+        7 => days[..1 + rng.below(12)].to_vec(),
+        _ => (0..1 + rng.below(12)).map(|_| rng.pick(days)).collect(),
+    };
+    let mut list: Vec<u32> = chosen.iter().map(|day| day.0 as u32).collect();
+    // Weekends, other months, repeats and numbers of no day.
+    let weekends: Vec<Day> = days.iter().copied().filter(|day| day.weekday() > 5).collect();
+    let more = if rng.chance(40) { 0 } else { rng.below(41 - list.len()) };
+    for _ in 0..more {
+        let further = match rng.below(6) {
+            0 => rng.pick(&weekends).0 as u32,
+            1 => (days[0].0 as u32 - 1).saturating_sub(rng.below(40) as u32),
+            2 => days[days.len() - 1].0 as u32 + 1 + rng.below(40) as u32,
+            3 => rng.pick(&[0, u32::MAX, 1 << 31, 36_557]),
+            4 if !list.is_empty() => rng.pick(&list),
+            _ => rng.word() as u32,
+        };
+        list.push(further);
+    }
+    if rng.chance(80) {
+        shuffle(rng, &mut list);
+    } else {
+        list.sort_unstable();
+    }
+    list
+}
+
+fn delivery_case(rng: &mut Rng) -> Case {
+    let quarter = quarter_number(rng);
+    let good = (1..=LAST.0).contains(&quarter);
+    let days: Vec<Day> = calendar::next_days(if good { QuarterHour(quarter) } else { LAST }).collect();
+    let holidays = holidays(rng, &days);
+    Case { call: Call::DeliveryDay { quarter, holidays }, expected: Some(if good { 0 } else { 18 }) }
+}
+
+// ---------------------------------------------------------------------------------------------------------------
 // Inputs of the program
 
 /// Plants that share measures that share quarters: few records, many lines.
@@ -1615,7 +1777,7 @@ fn lattice(rng: &mut Rng) -> Vec<u8> {
 /// So many plants, all with the same so many measures, all with the same so many quarters.
 pub fn shared(plants: usize, measures: usize, quarters: usize, planned: i32, rng: &mut Rng) -> Vec<u8> {
     let quarter = Quarter { month: 6, time: 40, measured: 0, limit: 0, weather: 0, planned };
-    let own = Measure { direction: 2, execution: 2, before: Vec::new(), quarters: Vec::new() };
+    let own = Measure { direction: 2, execution: 2, first: 0, before: Vec::new(), quarters: Vec::new() };
     let plant = Plant { technology: 3, variant: 1, nominal: 100_000, curve: Vec::new(), measures: Vec::new() };
     let mut sheet = vec![plant; plants];
     sheet[plants - 1].measures = vec![own; measures];

@@ -1,6 +1,7 @@
-//! Document 01, "From readings to exact fractions" and settle in "Calls on the archive".
+//! Document 01, "From readings to exact fractions" and settle in "Calls on the archive"; request 1's dated measures.
 
 use crate::archive::*;
+use crate::calendar::{QuarterHour, LAST};
 use std::ops::RangeInclusive;
 
 /// What settle gives besides the list.
@@ -106,13 +107,23 @@ impl Pairing {
     }
 }
 
-/// Pairing, direction and execution of a measure.
-pub fn terms(archive: &[u8], p: u64, k: u64) -> Option<(Pairing, u8, u8)> {
+/// Records of plant p and its measure k.
+fn sheet(archive: &[u8], p: u64, k: u64) -> Option<(&[u8], &[u8])> {
     let used = used(archive).ok()?;
     let plant = place(archive, used, 0, FIRST, PLANT, p, 4).ok()?;
     let measure = place(archive, used, plant, SECOND, MEASURE, k, 5).ok()?;
-    let (plant, measure) = (record(archive, plant), record(archive, measure));
+    Some((record(archive, plant), record(archive, measure)))
+}
+
+/// Pairing, direction and execution of a measure.
+pub fn terms(archive: &[u8], p: u64, k: u64) -> Option<(Pairing, u8, u8)> {
+    let (plant, measure) = sheet(archive, p, k)?;
     Some((Pairing::of(plant[1], plant[2])?, measure[1], measure[2]))
+}
+
+/// A measure's first quarter, 0 if it is undated.
+pub fn first_quarter(archive: &[u8], p: u64, k: u64) -> Option<u64> {
+    sheet(archive, p, k).map(|(_, measure)| link(measure, DATE))
 }
 
 /// A fraction, its denominator above 0.
@@ -127,7 +138,7 @@ enum Reference {
     Wind { curve: Vec<(i128, i128)>, a: i128, b: i128, nominal: i128 },
     Carried(i128),
     Solar { a: i128, b: i128 },
-    Factor { nominal: i128 },
+    Factor { nominal: i128, first: u64 },
     Planned,
 }
 
@@ -164,8 +175,17 @@ pub fn factor(month: u8, quarter: u8) -> i128 {
     }
 }
 
-/// Reference power T of one quarter.
-fn reference_power(reference: &Reference, quarter: &[u8]) -> Fraction {
+/// Month and quarter of the day of a measure's quarter `at`: dated by the first one's number, else its own bytes.
+fn month_and_time(first: u64, at: u64, quarter: &[u8]) -> (u8, u8) {
+    if first == 0 {
+        return (quarter[1], quarter[2]);
+    }
+    let number = QuarterHour(first + at);
+    (number.month(), number.time())
+}
+
+/// Reference power T of a measure's quarter `at`, counted from 0.
+fn reference_power(reference: &Reference, at: u64, quarter: &[u8]) -> Fraction {
     match reference {
         Reference::Wind { curve, a, b, nominal } => {
             let t = curve_power(curve, field(quarter, 16));
@@ -174,8 +194,9 @@ fn reference_power(reference: &Reference, quarter: &[u8]) -> Fraction {
         }
         Reference::Carried(power) => Fraction { numerator: *power, denominator: 1 },
         Reference::Solar { a, b } => Fraction { numerator: a * field(quarter, 16), denominator: *b },
-        Reference::Factor { nominal } => {
-            Fraction { numerator: nominal * factor(quarter[1], quarter[2]), denominator: 10_000 }
+        Reference::Factor { nominal, first } => {
+            let (month, time) = month_and_time(*first, at, quarter);
+            Fraction { numerator: nominal * factor(month, time), denominator: 10_000 }
         }
         Reference::Planned => Fraction { numerator: field(quarter, 20), denominator: 1 },
     }
@@ -203,13 +224,14 @@ fn magnitude(positive: bool, reference: Fraction, limitation: i128) -> Fraction 
 }
 
 /// Settle without its list, in the order of "Refused sheets": 1; plants; measures; 6; 7; curve; before-quarters;
-/// quarters.
+/// quarters; 18.
 pub fn settled(archive: &[u8], p: u64, k: u64) -> Result<Settled, Refusal> {
     let used = used(archive)?;
     let plant_number = place(archive, used, 0, FIRST, PLANT, p, 4)?;
     let measure_number = place(archive, used, plant_number, SECOND, MEASURE, k, 5)?;
     let plant = record(archive, plant_number);
     let measure = record(archive, measure_number);
+    let first = link(measure, DATE);
     let mut links = p + k;
 
     // 6: technology, variant or Pn.
@@ -243,7 +265,7 @@ pub fn settled(archive: &[u8], p: u64, k: u64) -> Result<Settled, Refusal> {
 
     // Before-quarters.
     let reference = match pairing {
-        Pairing::SolarPauschal => Reference::Factor { nominal },
+        Pairing::SolarPauschal => Reference::Factor { nominal, first },
         Pairing::OtherSpitz => Reference::Planned,
         _ => {
             let numbers = chain(archive, used, measure_number, FIRST, BEFORE)?;
@@ -261,14 +283,20 @@ pub fn settled(archive: &[u8], p: u64, k: u64) -> Result<Settled, Refusal> {
     }
     let quarters: Vec<&[u8]> = numbers.iter().map(|&number| record(archive, number)).collect();
     for quarter in &quarters {
-        quarter_tested(pairing, execution, quarter)?;
+        quarter_tested(pairing, execution, first != 0, quarter)?;
+    }
+
+    // 18: the first or the last quarter past the calendar's last one.
+    if first != 0 && first + numbers.len() as u64 - 1 > LAST.0 {
+        return Err(18);
     }
 
     // Amounts: S rounded down minus R rounded down, the sign afterwards.
     let mut amounts = Vec::new();
     let mut r = 0i128;
-    for quarter in &quarters {
-        let exact = magnitude(positive, reference_power(&reference, quarter), limitation(positive, execution, quarter));
+    for (at, quarter) in quarters.iter().enumerate() {
+        let reference = reference_power(&reference, at as u64, quarter);
+        let exact = magnitude(positive, reference, limitation(positive, execution, quarter));
         let s = r + exact.numerator;
         let amount = s.div_euclid(exact.denominator) - r.div_euclid(exact.denominator);
         amounts.push(if positive { -amount } else { amount } as i64);
@@ -373,8 +401,8 @@ fn before_tested(
     }
 }
 
-/// The quarters' 9: needed fields only.
-fn quarter_tested(pairing: Pairing, execution: u8, quarter: &[u8]) -> Result<(), Refusal> {
+/// The quarters' 9: needed fields only. A dated quarter's month and quarter of the day aren't its own.
+fn quarter_tested(pairing: Pairing, execution: u8, dated: bool, quarter: &[u8]) -> Result<(), Refusal> {
     within(field(quarter, 8), POWER)?;
     if execution == 1 {
         within(field(quarter, 12), POWER)?;
@@ -383,6 +411,7 @@ fn quarter_tested(pairing: Pairing, execution: u8, quarter: &[u8]) -> Result<(),
         Pairing::WindSpitz => within(field(quarter, 16), SPEED),
         Pairing::SolarSpitz => within(field(quarter, 16), IRRADIANCE),
         Pairing::OtherSpitz => within(field(quarter, 20), POWER),
+        Pairing::SolarPauschal if dated => Ok(()),
         Pairing::SolarPauschal => {
             within(i128::from(quarter[1]), 1..=12)?;
             within(i128::from(quarter[2]), 0..=95)

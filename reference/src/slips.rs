@@ -1,8 +1,9 @@
-//! Wrong readings of document 01, one at a time. A generated call reaches a situation if the wrong reading gives
-//! another outcome there than the right one; an example on the pages shows it in the same way. With `Slip::None` every
-//! call gives what the plain modules give.
+//! Wrong readings of document 01 and request 1, one at a time. A generated call reaches a situation if the wrong
+//! reading gives another outcome there than the right one; an example on the pages shows it in the same way. With
+//! `Slip::None` every call gives what the plain modules give.
 
 use crate::archive::*;
+use crate::calendar::{days_of_month, next_month, LAST};
 use crate::settle::{curve_power, Pairing, CURVE_POWER, IRRADIANCE, NOMINAL, POWER, SPEED};
 
 /// Which call a slip belongs to.
@@ -13,6 +14,7 @@ pub enum Of {
     Append,
     Show,
     Audit,
+    DeliveryDay,
     Program,
 }
 
@@ -89,6 +91,26 @@ slips! {
         SumWraps Settle "F3" "sum of numerators kept in 64 bits"
         ListWritten Settle "F9" "list written before the result part is tested"
         NominalSpitz Settle "Pn" "Pn tested only where T uses it"
+        BytesTested Settle "1.2!" "bytes 1 and 2 tested in dated quarters too"
+        DateIgnored Settle "1.2!" "bytes 1 and 2 used in dated quarters"
+        DateSigned Settle "1.1" "a date of 2^31 or more taken for none"
+        DateNarrow Settle "1.3" "first plus count kept in 32 bits"
+        LateAtOnce Settle "1.4" "18 for the first quarter on reaching the measure"
+        LateBeforeEight Settle "1.4" "18 before the quarters' 8"
+        LateBeforeNine Settle "1.4" "18 before the quarters' 9"
+        LateBehindList Settle "1.4" "18 behind 13"
+        LateSolar Settle "1.4" "18 tested in solar only"
+        LateFactors Settle "1.4" "18 tested in solar Pauschal only"
+        LateFirstOnly Settle "02, 1" "18 for the first quarter only"
+        LastRefused Settle "02, 1" "quarter 3,506,400 refused"
+        LastMore Settle "02, 1" "quarter 3,506,401 accepted"
+        DateKept Settle "02, 1" "all quarters take the first one's date"
+        MonthKept Settle "02, 1" "all quarters take the first one's month"
+        TimeFromOne Settle "02, 1" "number / 96 without minus 1 for day and time"
+        ThirtyDays Settle "02, 1" "months of 30 days"
+        EveryLeap Settle "1.9" "29 February in every year"
+        NoLeap Settle "1.9" "29 February in no year"
+        NoLeap2000 Settle "1.9" "no 29 February in 2000"
         FullBeforeWalk Append "55!" "16 before 2 and 3"
         FullBeforeOwner Append "55!" "16 before 15"
         ReachedOwner Append "56!" "owner must be on a chain"
@@ -96,20 +118,44 @@ slips! {
         OwnChain Append "56!" "the owner's own next link walked too"
         NarrowOwner Append "13!" "owner cut to 32 bits"
         HeadByText Append "58" "any record with the text AARB taken for a head"
+        AppendLate Append "1.5" "a measure with a late date is 18"
         LinksInAll Append "60" "bytes 8-15 must be 0 in every kind"
         KeptBytes Append "61" "record U keeps bytes 24-31"
         FirstLink Append "57" "the owner's first link always set"
         NeededOnly Audit "66!" "curve link tested in wind Spitz only"
         KindsFirst Audit "68!" "all kinds before all links"
         TwiceAtOnce Audit "68!" "17 as soon as a record is named twice"
+        AuditLate Audit "1.5" "a measure with a late date is 18"
         UnusedAudited Audit "64" "unused records must have known kinds"
         OrphansIgnored Audit "69" "links of orphans not counted"
         NarrowNumber Show "13!" "number cut to 32 bits"
         UnusedShown Show "63" "records behind U shown"
         TextNeeded Fresh "54" "fresh needs an archive"
+        DueSaturday DeliveryDay "1.6!" "Saturday a working day"
+        DueThird DeliveryDay "02, 1" "third working day"
+        DueFifth DeliveryDay "02, 1" "fifth working day"
+        DueSunday DeliveryDay "1.7" "a listed weekend day takes a working day away"
+        DueTwice DeliveryDay "1.7" "a day listed twice takes another working day away"
+        DueRising DeliveryDay "1.7" "list read as far as it rises"
+        DueOwnMonth DeliveryDay "02, 1" "delivery day in the quarter's own month"
+        DueDecember DeliveryDay "1.8" "no days behind December"
+        DueFewRefused DeliveryDay "1.8" "18 where fewer than four are left"
+        DueGoesOn DeliveryDay "02, 1" "counted on in the month after where fewer than four are left"
+        DueWeekday DeliveryDay "02, 1" "day 1 taken for a Sunday"
+        DueZero DeliveryDay "02, 1" "quarter 0 taken for 1"
+        DueLastRefused DeliveryDay "02, 1" "quarter 3,506,400 refused"
+        DueLastMore DeliveryDay "02, 1" "quarter 3,506,401 accepted"
+        DueNarrow DeliveryDay "02, 1" "quarter cut to 32 bits"
+        DueDayFromOne DeliveryDay "02, 1" "number / 96 without minus 1 for the day"
+        DueThirtyDays DeliveryDay "02, 1" "months of 30 days"
+        DueEveryLeap DeliveryDay "1.9" "29 February in every year"
+        DueNoLeap DeliveryDay "1.9" "29 February in no year"
+        DueNoLeap2000 DeliveryDay "1.9" "no 29 February in 2000"
+        DueWritten DeliveryDay "02, 1" "day set to 0 on a refusal"
         LowerGoesOn Program "75!" "2 or 3 below a measure leads on to the next measure"
         FixedStore Program "81!" "no more Q lines than 2,048 records"
         SixSkips Program "79" "6 leads on to the next plant"
+        LateEnds Program "02, 1" "18 ends the program"
         LongCut Program "71" "longer input cut to 65,536 bytes"
     }
     pages {
@@ -281,6 +327,15 @@ slips! {
         LongerList Settle "F 6" "a longer list is 13"
         ListUntested Settle "F 6" "a short list filled as far as it goes"
         ListBeforeEight Settle "F 6" "an empty list is 13 at once"
+        DateNeeded Settle "F 6" "an undated measure is 18"
+        BytesAgree Settle "F 6" "9 where a dated quarter's bytes 1 and 2 don't say its date"
+        LatePauschal Settle "F 6" "18 tested in Pauschal only"
+        DateBigEndian Settle "F 3" "first quarter read with the highest byte first"
+        DateOfLast Settle "F 3" "first quarter's number taken for the last one's"
+        DateUtc Settle "R 13" "numbers counted in UTC, clock an hour ahead of it"
+        DateSummerTime Settle "R 13" "clock an hour ahead from April to September in dated quarters"
+        DateOwnMonth Settle "R 13" "dated quarters keep their own month"
+        DateOwnTime Settle "R 13" "dated quarters keep their own quarter of the day"
         FreshKeeps Fresh "F 8" "other bytes kept"
         FreshNone Fresh "F 8" "U = 0 written"
         FreshAll Fresh "F 8" "U = all records written"
@@ -328,6 +383,22 @@ slips! {
         NextKindFree Audit "F 11" "kind not tested at next links"
         BothLinks Audit "F 11" "bytes 8-15 tested in every kind"
         SharedNext Audit "F 11" "next links name nothing"
+        DueFriday DeliveryDay "R 13" "day 1 taken for a Friday"
+        DueMonday DeliveryDay "R 13" "day 1 taken for a Monday"
+        DueEveryDay DeliveryDay "R 13" "every day a working day"
+        DueFourthDay DeliveryDay "R 13" "fourth day of the month, or the next working day"
+        DueDaysOn DeliveryDay "R 13" "fourth working day after the quarter's own day"
+        DueFromZero DeliveryDay "R 13" "days numbered from 0"
+        DueAsQuarter DeliveryDay "F 16" "number of the day's first quarter given"
+        DueDayOfMonth DeliveryDay "F 16" "day of the month given"
+        DueFewLast DeliveryDay "F 16" "last working day given where fewer than four are left"
+        DueFewKept DeliveryDay "F 16" "day left as it was where fewer than four are left"
+        DueListQuarters DeliveryDay "F 16" "list taken for quarters"
+        DueListFirst DeliveryDay "F 16" "first day of the list read alone"
+        DueListMonth DeliveryDay "F 16" "31 days of the list read"
+        DueListEnds DeliveryDay "F 16" "list read up to a 0"
+        DueListNarrow DeliveryDay "F 16" "days of the list cut to 16 bits"
+        DueListTested DeliveryDay "F 16" "a listed 0 or a day past January 2100 is 18"
         FiveEnds Program "F 12" "5 ends the program"
         FiveLine Program "F 12" "a line for 5"
         FourLine Program "F 12" "a line for 4"
@@ -634,6 +705,49 @@ fn slipped_factor(slip: Slip, month: u8, quarter: u8) -> i128 {
     factors[edges.iter().filter(|&&edge| quarter >= edge).count()]
 }
 
+fn slipped_days(slip: Slip, year: u64, month: u8) -> u64 {
+    match (slip, month) {
+        (Slip::ThirtyDays | Slip::DueThirtyDays, _) => 30,
+        (Slip::EveryLeap | Slip::DueEveryLeap, 2) => 29,
+        (Slip::NoLeap | Slip::DueNoLeap, 2) => 28,
+        (Slip::NoLeap2000 | Slip::DueNoLeap2000, 2) if year == 2000 => 28,
+        _ => days_of_month(year, month),
+    }
+}
+
+/// Year, month and first day of the month of a day. Wild days are taken back by cycles of 400 years.
+fn slipped_month(slip: Slip, day: u64) -> (u64, u8, u64) {
+    let day = (day - 1) % 146_097 + 1;
+    let (mut year, mut month, mut first) = (2000, 1, 1);
+    loop {
+        let days: u64 = (1..=12).map(|month| slipped_days(slip, year, month)).sum();
+        if day < first + days {
+            break;
+        }
+        first += days;
+        year += 1;
+    }
+    while day >= first + slipped_days(slip, year, month) {
+        first += slipped_days(slip, year, month);
+        month += 1;
+    }
+    (year, month, first)
+}
+
+/// Month and quarter of the day of a quarter's number.
+fn slipped_time(slip: Slip, number: u64) -> (u8, u8) {
+    let passed = match slip {
+        Slip::TimeFromOne => number,
+        Slip::DateUtc => number + 3,
+        _ => number - 1,
+    };
+    let month = slipped_month(slip, passed / 96 + 1).1;
+    match slip {
+        Slip::DateSummerTime if (4..=9).contains(&month) => (month, ((passed + 4) % 96) as u8),
+        _ => (month, (passed % 96) as u8),
+    }
+}
+
 /// What a wrong program hands from measure to measure: a remainder over its denominator.
 type Carry = (i128, i128);
 
@@ -710,6 +824,14 @@ fn settle(
         measures.iter().try_for_each(|&number| seven(number).map(|_| ()))?;
     }
     let (positive, execution) = seven(measure_number)?;
+    let date = match slip {
+        Slip::DateBigEndian => u64::from((link(record(archive, measure_number), DATE) as u32).swap_bytes()),
+        _ => link(record(archive, measure_number), DATE),
+    };
+    let date = if is(Slip::DateSigned) && date >= 1 << 31 { 0 } else { date };
+    if is(Slip::LateAtOnce) {
+        test(date <= LAST.0, 18)?;
+    }
     let mut links = p + k;
     if is(Slip::PlacesUncounted) {
         links = 2;
@@ -947,9 +1069,16 @@ fn settle(
         Slip::QuartersLess => 2_975,
         _ => 2_976,
     };
+    let eighteen = late(slip, pairing, date, numbers.len() as u64);
+    if is(Slip::LateBeforeEight) {
+        eighteen?;
+    }
     let eight = test((fewest..=most_quarters).contains(&numbers.len()), 8);
     if !is(Slip::QuarterNineFirst) {
         eight?;
+    }
+    if is(Slip::LateBeforeNine) {
+        eighteen?;
     }
     let places = if is(Slip::RaggedPlace) { (list.len() + 7) / 8 } else { list.len() / 8 };
     if is(Slip::ListFirst) {
@@ -957,8 +1086,17 @@ fn settle(
     }
     let quarters: Vec<&[u8]> = numbers.iter().map(|&number| record(archive, number)).collect();
     let tested = if is(Slip::FirstQuarterOnly) { quarters.len().min(1) } else { quarters.len() };
-    for one in &quarters[..tested] {
-        let day = pairing == Pairing::SolarPauschal;
+    let moment = |at: usize| match slip {
+        Slip::DateKept => slipped_time(slip, date),
+        Slip::MonthKept => (slipped_time(slip, date).0, slipped_time(slip, date + at as u64).1),
+        Slip::DateOfLast => slipped_time(slip, (date + at as u64 + 1).saturating_sub(quarters.len() as u64).max(1)),
+        Slip::DateOwnMonth => (quarters[at][1], slipped_time(slip, date + at as u64).1),
+        Slip::DateOwnTime => (slipped_time(slip, date + at as u64).0, quarters[at][2]),
+        _ => slipped_time(slip, date + at as u64),
+    };
+    for (at, one) in quarters[..tested].iter().enumerate() {
+        let own = date == 0 || is(Slip::BytesTested) || is(Slip::DateIgnored);
+        let day = pairing == Pairing::SolarPauschal && own;
         let (measured, limit, weather) = (reader.field(one, 8), reader.field(one, 12), reader.field(one, 16));
         let chosen = if positive { limit < measured } else { limit > measured };
         let needs_limit = match execution {
@@ -986,9 +1124,14 @@ fn settle(
         test(!(day || is(Slip::MonthAlways)) || months.contains(&one[1]), 9)?;
         let latest = if is(Slip::TimeEdge) { 94 } else { 95 };
         test(!(day || is(Slip::MonthAlways)) || one[2] <= latest || is(Slip::TimeUntested), 9)?;
+        let agrees = || pairing != Pairing::SolarPauschal || moment(at) == (one[1], one[2]);
+        test(!is(Slip::BytesAgree) || date == 0 || agrees(), 9)?;
     }
     eight?;
     twelve?;
+    if !is(Slip::LateBehindList) {
+        eighteen?;
+    }
 
     // Amounts.
     let mut amounts: Vec<i64> = Vec::new();
@@ -1009,7 +1152,7 @@ fn settle(
         Slip::RoundNearest => (2 * sum + 4 * under).div_euclid(8 * under),
         _ => sum.div_euclid(4 * under),
     };
-    for one in &quarters {
+    for (at, one) in quarters.iter().enumerate() {
         let mut measured = reader.field(one, 8);
         if is(Slip::NegativeZero) {
             measured = measured.max(0);
@@ -1046,7 +1189,11 @@ fn settle(
             },
             Pairing::SolarSpitz if is(Slip::SolarCap) => ratio(weather).min(nominal * b),
             Pairing::SolarSpitz => ratio(weather),
-            Pairing::SolarPauschal => nominal * slipped_factor(slip, one[1], one[2]),
+            Pairing::SolarPauschal => {
+                let own = date == 0 || is(Slip::DateIgnored);
+                let (month, time) = if own { (one[1], one[2]) } else { moment(at) };
+                nominal * slipped_factor(slip, month, time)
+            }
             Pairing::OtherSpitz => match slip {
                 Slip::CapPlan => reader.field(one, 20).min(nominal),
                 Slip::RaisedPlan => reader.field(one, 20).max(0),
@@ -1107,6 +1254,7 @@ fn settle(
         write(list);
     }
     test(result.len() == 24 || (is(Slip::ResultLonger) && result.len() > 24), 13)?;
+    eighteen?;
     write(list);
     if is(Slip::LaterZeroed) {
         list[8 * amounts.len()..].fill(0);
@@ -1115,6 +1263,30 @@ fn settle(
     result[8..16].copy_from_slice(&total.to_le_bytes());
     result[16..24].copy_from_slice(&links.to_le_bytes());
     Ok(())
+}
+
+/// 18 of a dated measure with so many quarters.
+fn late(slip: Slip, pairing: Pairing, date: u64, count: u64) -> Result<(), Refusal> {
+    let behind = match slip {
+        Slip::LateFirstOnly | Slip::DateOfLast => date + 1,
+        Slip::DateNarrow => (date + count) & 0xffff_ffff,
+        _ => date + count,
+    };
+    let last = match slip {
+        Slip::LastRefused => LAST.0 - 1,
+        Slip::LastMore => LAST.0 + 1,
+        _ => LAST.0,
+    };
+    let tested = match slip {
+        Slip::LateSolar => matches!(pairing, Pairing::SolarSpitz | Pairing::SolarPauschal),
+        Slip::LateFactors => pairing == Pairing::SolarPauschal,
+        Slip::LatePauschal => {
+            matches!(pairing, Pairing::WindPauschal | Pairing::SolarPauschal | Pairing::OtherPauschal)
+        }
+        _ => true,
+    };
+    test(date != 0 || slip != Slip::DateNeeded, 18)?;
+    test(date == 0 || !tested || behind <= last + 1, 18)
 }
 
 /// Append with one slip.
@@ -1178,6 +1350,9 @@ fn append_place(slip: Slip, archive: &[u8], owner: u64, new: &[u8]) -> Result<(u
         _ => 8,
     };
     test(new[8..end].iter().all(|&byte| byte == 0), 14)?;
+    if is(Slip::AppendLate) {
+        test(kind != MEASURE || link(new, DATE) <= LAST.0, 18)?;
+    }
     if is(Slip::AppendRanges) {
         test(kind != QUARTER || (1..=12).contains(&new[1]), 9)?;
     }
@@ -1290,6 +1465,9 @@ fn audited(slip: Slip, archive: &[u8]) -> Result<(), Refusal> {
         if number > 0 && !is(Slip::UnknownKinds) {
             known(number)?;
         }
+        if is(Slip::AuditLate) && number > 0 {
+            test(kind != MEASURE || link(holder, DATE) <= LAST.0, 18)?;
+        }
         if is(Slip::LinksBackward) {
             links.reverse();
         }
@@ -1378,6 +1556,104 @@ pub fn fresh(slip: Slip, archive: &mut [u8]) -> Refusal {
     0
 }
 
+/// Delivery day with one slip, as the host calls it.
+pub fn delivery_day(slip: Slip, quarter: u64, holidays: &[u32], day: &mut u64) -> Refusal {
+    match due(slip, quarter, holidays) {
+        Ok(0) if slip == Slip::DueFewKept => 0,
+        Ok(found) => {
+            *day = found;
+            0
+        }
+        Err(number) => {
+            if slip == Slip::DueWritten {
+                *day = 0;
+            }
+            number
+        }
+    }
+}
+
+fn due(slip: Slip, quarter: u64, holidays: &[u32]) -> Result<u64, Refusal> {
+    let is = |other: Slip| slip == other;
+    let quarter = match slip {
+        Slip::DueNarrow => quarter & 0xffff_ffff,
+        Slip::DueZero => quarter.max(1),
+        _ => quarter,
+    };
+    let last = match slip {
+        Slip::DueLastRefused => LAST.0 - 1,
+        Slip::DueLastMore => LAST.0 + 1,
+        _ => LAST.0,
+    };
+    test((1..=last).contains(&quarter), 18)?;
+    test(!is(Slip::DueListTested) || holidays.iter().all(|holiday| (1..=36_556).contains(holiday)), 18)?;
+    let own = if is(Slip::DueDayFromOne) { quarter / 96 + 1 } else { (quarter - 1) / 96 + 1 };
+    let (own_year, own_month, first) = slipped_month(slip, own);
+    let next = first + slipped_days(slip, own_year, own_month);
+    let (year, month) = next_month(own_year, own_month);
+    let days = match slip {
+        Slip::DueOwnMonth => first..next,
+        Slip::DueDecember if own_month == 12 => next..next,
+        Slip::DueGoesOn => next..next + 61,
+        Slip::DueDaysOn => own + 1..own + 61,
+        Slip::DueFourthDay => next + 3..next + slipped_days(slip, year, month),
+        _ => next..next + slipped_days(slip, year, month),
+    };
+
+    let all = holidays.len();
+    let read = match slip {
+        Slip::DueRising => all.min(holidays.windows(2).take_while(|pair| pair[0] < pair[1]).count() + 1),
+        Slip::DueListFirst => all.min(1),
+        Slip::DueListMonth => all.min(31),
+        Slip::DueListEnds => holidays.iter().position(|&holiday| holiday == 0).unwrap_or(all),
+        _ => all,
+    };
+    let listed = |holiday: u32| match slip {
+        Slip::DueListQuarters => u64::from(holiday) / 96 + 1,
+        Slip::DueListNarrow => u64::from(holiday as u16),
+        Slip::DueFromZero => u64::from(holiday) + 1,
+        _ => u64::from(holiday),
+    };
+    let times = |day: u64| holidays[..read].iter().filter(|&&holiday| listed(holiday) == day).count();
+    let monday = match slip {
+        Slip::DueFriday => 3,
+        Slip::DueWeekday => 5,
+        Slip::DueMonday => 6,
+        _ => 4,
+    };
+    let weekday = |day: u64| (day + monday) % 7;
+    let workdays = match slip {
+        Slip::DueSaturday => 0..6,
+        Slip::DueEveryDay => 0..7,
+        _ => 0..5,
+    };
+    let works = |day: &u64| workdays.contains(&weekday(*day));
+    let away: usize = match slip {
+        Slip::DueSunday => days.clone().filter(|day| !works(day) && times(*day) > 0).count(),
+        Slip::DueTwice => days.clone().filter(works).map(|day| times(day).saturating_sub(1)).sum(),
+        _ => 0,
+    };
+    let place = match slip {
+        Slip::DueThird => 2,
+        Slip::DueFifth => 4,
+        Slip::DueFourthDay => 0,
+        _ => 3,
+    };
+    let left: Vec<u64> = days.filter(|day| works(day) && times(*day) == 0).collect();
+    let found = match left.get(place + away) {
+        Some(&day) => day,
+        None if is(Slip::DueFewRefused) => return Err(18),
+        None if is(Slip::DueFewLast) => return Ok(left.last().copied().unwrap_or(0)),
+        None => return Ok(0),
+    };
+    Ok(match slip {
+        Slip::DueFromZero => found - 1,
+        Slip::DueAsQuarter => 96 * (found - 1) + 1,
+        Slip::DueDayOfMonth => found - next + 1,
+        _ => found,
+    })
+}
+
 /// The program's lines with one slip, of the program or of settle.
 pub fn program(slip: Slip, input: &[u8]) -> Vec<u8> {
     use std::io::Write;
@@ -1452,6 +1728,7 @@ pub fn program(slip: Slip, input: &[u8]) -> Vec<u8> {
                     2 if is(Slip::TwoSkips) => below,
                     3 if is(Slip::ThreeGoesOn) => true,
                     2 | 3 => is(Slip::LowerGoesOn) && below,
+                    18 if is(Slip::LateEnds) => false,
                     _ => !is(Slip::OtherEnds),
                 };
                 if !goes_on {

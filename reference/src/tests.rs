@@ -1,13 +1,15 @@
-//! Document 01's own figures and examples, `fast` and the slips against the plain modules, and read-back.
+//! Document 01's own figures and examples, request 1's dates, `fast` and the slips against the plain modules, and
+//! read-back.
 
 use crate::archive::{link, record, used, FIRST, NEXT, RECORD, SECOND};
 use crate::builder::*;
+use crate::calendar::{days_of_month, first_day, next_month, Date, Day, QuarterHour, LAST};
 use crate::generate::{self, Call};
 use crate::rng::Rng;
 use crate::settle::{curve_power, factor};
 use crate::sha256::sha256;
 use crate::slips::{self, Of, Slip, SLIPS};
-use crate::{append, audit, fast, fresh, host_settle, program, settle, show, Answer};
+use crate::{append, audit, delivery_day, fast, fresh, host_delivery_day, host_settle, program, settle, show, Answer};
 
 fn quiet() -> Rng {
     Rng::new(0, 0)
@@ -30,7 +32,7 @@ fn point(speed: i32, power: i32) -> Point {
 }
 
 fn measure(direction: u8, execution: u8, before: Vec<Before>, quarters: Vec<Quarter>) -> Measure {
-    Measure { direction, execution, before, quarters }
+    Measure { direction, execution, first: 0, before, quarters }
 }
 
 fn plant(technology: u8, variant: u8, nominal: i32, curve: Vec<Point>, measures: Vec<Measure>) -> Plant {
@@ -232,6 +234,215 @@ fn table() {
     assert_eq!((wrong.kind(4), audit(&wrong.bytes)), (5, 17));
 }
 
+fn date(year: u64, month: u8, day: u8) -> Date {
+    Date { year, month, day }
+}
+
+/// The last quarter of a month.
+fn month_end(year: u64, month: u8) -> u64 {
+    let (year, month) = next_month(year, month);
+    first_day(year, month).midnight().0 - 1
+}
+
+#[test]
+fn calendar() {
+    let october = QuarterHour(937_921);
+    assert_eq!((october.day().date(), october.time()), (date(2026, 10, 1), 0));
+    assert_eq!((LAST.day().date(), LAST.time()), (date(2099, 12, 31), 95));
+    assert_eq!((Day(1).date(), Day(1).weekday()), (date(2000, 1, 1), 6));
+    assert_eq!(Day(36_556).date(), date(2100, 1, 31));
+    // 29 February stands in 2000 and 2028, not in 2027 and 2100.
+    assert_eq!(Day(60).date(), date(2000, 2, 29));
+    let february = [2027, 2028, 2100].map(|year| Day(first_day(year, 2).0 + 28).date());
+    assert_eq!(february, [date(2027, 3, 1), date(2028, 2, 29), date(2100, 3, 1)]);
+    // Day by day: the next day is in the same month or the first of the next one.
+    let mut before = date(1999, 12, 31);
+    for number in 1..=36_890 {
+        let today = Day(number).date();
+        let end = u64::from(before.day) == days_of_month(before.year, before.month);
+        let (year, month) = next_month(before.year, before.month);
+        assert_eq!(today, if end { date(year, month, 1) } else { Date { day: before.day + 1, ..before } });
+        assert_eq!(first_day(today.year, today.month).0 + u64::from(today.day) - 1, number);
+        before = today;
+    }
+}
+
+/// The delivery day, the same in all implementations.
+fn due(quarter: u64, holidays: &[u32]) -> Result<u64, u32> {
+    let found = delivery_day(quarter, holidays);
+    assert_eq!(found, fast::delivery_day(quarter, holidays), "{quarter} {holidays:?}");
+    let (mut day, mut other) = (77, 77);
+    let number = host_delivery_day(quarter, holidays, &mut day);
+    assert_eq!((number, day), (found.err().unwrap_or(0), found.unwrap_or(77)));
+    assert_eq!((slips::delivery_day(Slip::None, quarter, holidays, &mut other), other), (number, day));
+    found
+}
+
+#[test]
+fn delivery_days() {
+    assert_eq!(due(937_921, &[]), Ok(9_806));
+    assert_eq!(due(937_921, &[9_806]), Ok(9_807));
+    assert_eq!(due(LAST.0, &[]), Ok(36_531));
+    assert_eq!(month_end(2027, 12), 981_792);
+    assert_eq!(due(981_792, &[]), Ok(10_233));
+    // The quarter before it is still in December, the one behind it in January 2028.
+    assert_eq!(due(981_791, &[]), Ok(10_233));
+    assert_eq!(Day(due(981_793, &[]).unwrap()).date(), date(2028, 2, 4));
+    // November 2026: all days but three working days, but four, and all.
+    let november: Vec<u32> = (9_802..9_832).collect();
+    assert_eq!(due(937_921, &november[..25]), Ok(0));
+    assert_eq!(due(937_921, &november[..24]), Ok(9_831));
+    assert_eq!(due(937_921, &november), Ok(0));
+    // Any order, repeats, weekends, other months and numbers of no day.
+    assert_eq!(due(937_921, &[u32::MAX, 9_806, 9_802, 9_801, 0, 9_806, 9_832, 36_557]), Ok(9_807));
+    for quarter in [0, LAST.0 + 1, 1 << 32, (1 << 32) + 1, 1 << 63, u64::MAX] {
+        assert_eq!(due(quarter, &[]), Err(18));
+    }
+}
+
+/// All months, without holidays, with the first day and with the first ten days listed.
+#[test]
+fn delivery_days_of_all_months() {
+    for year in 2000..2100 {
+        for month in 1..=12 {
+            let (next_year, next) = next_month(year, month);
+            let first = first_day(next_year, next).0 as u32;
+            let days: Vec<u32> = (first..first + 10).collect();
+            for quarter in [first_day(year, month).midnight().0, month_end(year, month)] {
+                for holidays in [&[], &days[..1], &days] {
+                    let found = Day(due(quarter, holidays).unwrap());
+                    assert_eq!((found.date().year, found.date().month), (next_year, next));
+                    assert!(found.weekday() <= 5 && !holidays.contains(&(found.0 as u32)));
+                }
+            }
+        }
+    }
+}
+
+/// Solar Pauschal from a quarter on, with Pn 1,000,000 and L 0: all amounts, the same in both implementations, whatever
+/// month and time the quarters themselves have.
+fn dated_solar(first: u64, count: usize) -> Vec<i64> {
+    let run = |month, time| {
+        let quarters = vec![Quarter { month, time, ..quarter(0) }; count];
+        let own = Measure { first: first as u32, ..measure(2, 2, vec![], quarters) };
+        let filed = archive(&[plant(2, 2, 1_000_000, vec![], vec![own])]);
+        let (mut list, mut other) = (vec![0; count], vec![0; count]);
+        let answer = settle(&filed.bytes, 1, 1, &mut list);
+        assert_eq!((answer.number, answer.total), (0, list.iter().sum::<i64>()));
+        assert_eq!(answer, fast::settle(&filed.bytes, 1, 1, &mut other));
+        assert_eq!(list, other);
+        list
+    };
+    let found = run(7, 40);
+    for (month, time) in [(13, 40), (0, 0), (7, 96), (255, 255)] {
+        assert_eq!(found, run(month, time));
+    }
+    found
+}
+
+/// A quarter of a day.
+fn at(year: u64, month: u8, day: u64, time: u64) -> u64 {
+    first_day(year, month).midnight().0 + 96 * (day - 1) + time
+}
+
+/// A day's total of solar Pauschal in summer and in winter.
+const SUMMER: i64 = 25 * (28 * 2_456 + 24 * 6_189);
+const WINTER: i64 = 25 * (15 * 2_796 + 16 * 5_030);
+
+#[test]
+fn dated_measures() {
+    let by_day = |first, days: usize| -> Vec<i64> {
+        dated_solar(first, 96 * days).chunks(96).map(|day| day.iter().sum()).collect()
+    };
+    // 1 October 2026 from midnight on, as in figure h.
+    let day = dated_solar(937_921, 96);
+    assert_eq!((day[23], day[24], day[35], day[36]), (0, 61_400, 61_400, 154_725));
+    // From noon to noon over 31 October, and the first quarters beside midnight.
+    assert_eq!(by_day(at(2026, 10, 30, 0), 4), [SUMMER, SUMMER, WINTER, WINTER]);
+    let noon = dated_solar(at(2026, 10, 31, 48), 96);
+    assert_eq!((noon[0], noon[47], noon[48], noon[95]), (154_725, 0, 0, 125_750));
+    // The same edge in figure i: quarter 66 gives 69,900, 67 gives 0.
+    let evening = dated_solar(at(2026, 11, 1, 66), 2);
+    assert_eq!(evening, [69_900, 0]);
+    // Leap days are winter: 29 February in 2000 and 2028, none in 2027.
+    assert_eq!(by_day(at(2000, 2, 28, 0), 3), [WINTER, WINTER, SUMMER]);
+    assert_eq!(by_day(at(2028, 2, 28, 0), 3), [WINTER, WINTER, SUMMER]);
+    assert_eq!(by_day(at(2027, 2, 28, 0), 3), [WINTER, SUMMER, SUMMER]);
+    // Over a year's end, and 31 days up to the last quarter.
+    assert_eq!(by_day(at(2027, 12, 31, 0), 2), [WINTER, WINTER]);
+    assert_eq!(by_day(LAST.0 - 2_975, 31), [WINTER; 31]);
+    assert_eq!(by_day(1, 31), [WINTER; 31]);
+    assert_eq!(by_day(at(2026, 3, 1, 0), 31), [SUMMER; 31]);
+}
+
+/// From noon to noon over every month's end.
+#[test]
+fn dated_over_all_months() {
+    let noon = |month: u8| if (3..=10).contains(&month) { 154_725 } else { 125_750 };
+    for year in 2000..2100 {
+        for month in 1..=if year == 2099 { 11 } else { 12 } {
+            let found = dated_solar(month_end(year, month) - 47, 96);
+            assert_eq!((found[0], found[95]), (noon(month), noon(next_month(year, month).1)));
+        }
+    }
+}
+
+/// A measure of two quarters in each pairing, undated.
+fn six() -> [Plant; 6] {
+    let windy = wind(2_000_000, 900_000, 1_500_000, 350_000);
+    let quarters = vec![Quarter { weather: 800, ..quarter(80_000) }];
+    let sunny = plant(2, 1, 1_000_000, vec![], vec![measure(2, 2, vec![before(300_000, 500); 3], quarters)]);
+    let other = |variant| Plant { variant, ..case_a() };
+    let all = [windy.clone(), Plant { variant: 2, ..windy }, sunny, solar_pauschal(7, 40), other(1), other(2)];
+    all.map(|mut plant| {
+        let quarters = &mut plant.measures[0].quarters;
+        *quarters = vec![quarters[0]; 2];
+        plant
+    })
+}
+
+/// 18 in every technology and variant, behind 9 and before 13.
+#[test]
+fn late_dates() {
+    for right in six() {
+        let dated = |first: u32| {
+            let mut plant = right.clone();
+            plant.measures[0].first = first;
+            plant
+        };
+        let last = LAST.0 as u32;
+        assert!(amounts(dated(0)).is_ok());
+        for first in [1, 937_921, last - 1] {
+            assert!(amounts(dated(first)).is_ok());
+        }
+        for first in [last, last + 1, 1 << 31, u32::MAX - 1, u32::MAX] {
+            assert_eq!(amounts(dated(first)), Err(18));
+            // 9 and 8 stand before it.
+            let mut wrong = dated(first);
+            wrong.measures[0].quarters[1].measured = 1_000_000_001;
+            assert_eq!(amounts(wrong), Err(9));
+            let mut wrong = dated(first);
+            wrong.measures[0].quarters.clear();
+            assert_eq!(amounts(wrong), Err(8));
+            // 13 stands behind it: a short list, a result part of 23 bytes.
+            let filed = archive(&[dated(first)]);
+            for (places, result) in [(1, 24), (2, 23), (0, 0)] {
+                let (mut list, mut lent) = (vec![5; 8 * places], vec![5; result]);
+                assert_eq!(host_settle(&filed.bytes, 1, 1, &mut list, &mut lent), 18);
+                assert_eq!(fast::host_settle(&filed.bytes, 1, 1, &mut list, &mut lent), 18);
+                assert_eq!(slips::host_settle(Slip::None, &filed.bytes, 1, 1, &mut list, &mut lent), 18);
+                assert!(list.iter().chain(&lent).all(|&byte| byte == 5));
+            }
+            // Append and audit don't look at it.
+            assert_eq!(audit(&filed.bytes), 0);
+            assert!(printed(&filed.bytes).starts_with("E 1 1 18\n"));
+        }
+        // A dated measure's own 13.
+        let filed = archive(&[dated(937_921)]);
+        assert_eq!(settle(&filed.bytes, 1, 1, &mut [0]).number, 13);
+    }
+}
+
 /// What the program prints; the same in both implementations.
 fn printed(input: &[u8]) -> String {
     let (mut out, mut other) = (Vec::new(), Vec::new());
@@ -356,6 +567,7 @@ fn agree(seed: u64, index: u64) {
             None
         }
         Call::Fresh { mut archive } => Some(fresh(&mut archive)),
+        Call::DeliveryDay { quarter, holidays } => Some(due(quarter, &holidays).err().unwrap_or(0)),
     };
     if case.expected.is_some() {
         assert_eq!(case.expected, number, "made for this number: {index}");
@@ -407,6 +619,13 @@ fn slips_show() {
             Call::Fresh { archive } => {
                 let run = |slip| slips::fresh(slip, &mut archive.clone());
                 open.retain(|&(slip, of)| of != Of::Fresh || run(slip) == run(Slip::None));
+            }
+            Call::DeliveryDay { quarter, holidays } => {
+                let run = |slip| {
+                    let mut day = 77;
+                    (slips::delivery_day(slip, quarter, &holidays, &mut day), day)
+                };
+                open.retain(|&(slip, of)| of != Of::DeliveryDay || run(slip) == run(Slip::None));
             }
         }
     }

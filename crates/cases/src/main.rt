@@ -1,9 +1,11 @@
 // Calls made by the outside program (reference/src/bin/cases.rs) and run here. The file `calls` has them one after another; each gives a
-// line with its refusal number, the count, total and links of a settle, and a checksum of the later list or archive.
+// line with its refusal number, the count, total and links of a settle or the delivery day, and a checksum of the later list or archive.
 ghost use Prim.Native.Nat.{_+_, _≤_, _<_};
 ghost use mathlib.Core.Path.{_≡_};
 ghost use lib.ListN.{length};
+use calendar::Delivery;
 use settle::Settled;
+use units::QuarterNumber;
 
 // ---- checksums
 
@@ -112,11 +114,39 @@ fn show_call(archive: &[u8], number: u64) -> Answer {
     }
 }
 
+// Days of four bytes each, as many as there is room for.
+fn read_days(bytes: &[u8], days: &mut [u32]) -> usize
+    ensures { λ r. ⌜ r ≤ length (now (days .entry)) ⌝ }
+{
+    let mut n = 0;
+    while n < days.len() && 4 * n + 4 <= bytes.len() {
+        days[n] = record::link_at(bytes, 4 * n) as u32;
+        n += 1;
+    }
+    n
+}
+
+// The count is the day.
+fn delivery_call(quarter: u64, bytes: &[u8]) -> Answer {
+    let mut days = [0u32; 64];
+    let n = read_days(bytes, &mut days);
+    match calendar::delivery_day(QuarterNumber(quarter), &days[..n]) {
+        Delivery::Refused(number) => number_only(number, 0),
+        Delivery::Day(day) => Answer {
+            number: 0,
+            count: day.0,
+            total: 0,
+            links: 0,
+            sum: 0,
+        },
+    }
+}
+
 // ---- a call in the file
 
-// Which call, and its two numbers: plant and measure place, or the owner's or record's number. So many bytes follow for the archive's
-// start, whose further bytes stay as the last call left them; the archive has `size` bytes; `filed` bytes of a new record follow; the
-// list has `places` places.
+// Which call, and its two numbers: plant and measure place, or the owner's, record's or quarter's number. So many bytes follow for the
+// archive's start, whose further bytes stay as the last call left them; the archive has `size` bytes; `filed` bytes of a new record or of
+// holidays follow; the list has `places` places.
 struct Call {
     name: u64,
     first: u64,
@@ -160,6 +190,9 @@ fn answer_to(call: Call, archive: &mut [u8], new: &[u8], list: &mut [i64]) -> An
     }
     if call.name == 4 {
         return show_call(archive, call.first);
+    }
+    if call.name == 6 {
+        return delivery_call(call.first, new);
     }
     fresh_call(archive)
 }
@@ -241,7 +274,7 @@ fn run(fd: i32, archive: &mut [u8], new: &mut [u8], list: &mut [i64]) {
 
 fn main() {
     let mut archive = [0u8; 131072];
-    let mut new = [0u8; 64];
+    let mut new = [0u8; 256];
     let mut list = [0i64; 4096];
     let fd = os::open_read(b"calls");
     if fd < 0 {

@@ -6,7 +6,9 @@ ghost use Rattle.rules.specs.Reference as book;
 ghost use Rattle.rules.specs.Reference.{magnitude as magnitudeOf};
 ghost use Rattle.terms.specs.Meanings.{meaning};
 ghost use Rattle.reference.specs.References.{Means};
+ghost use Rattle.reference.specs.Times.{timeOf};
 ghost use Rattle.exact.specs.Exacts.{Room, Ready, quarterAnswer};
+use calendar::Clock;
 use record::Power;
 use reference::Numerator;
 use reference::Reference;
@@ -37,23 +39,25 @@ pub enum Exact {
     OutOfRange,
 }
 
-// Of a measure's quarter, from its index along the chain and its own 32 bytes; d is D, which all quarters of a measure share.
+// Of a measure's quarter, from its index along the chain, its clock, and its own 32 bytes; d is D, which all quarters of a measure share.
 pub fn exact_of(
     terms: Terms,
     index: u64,
+    clock: Clock,
     reference: Reference,
     d: u64,
     powers: &[u32],
     r: &[u8],
 ) -> Exact
     requires { ⌜ Ready reference d (now powers) (now r) ⌝ }
+    requires { ⌜ clock ≡ timeOf reference (meaning terms) index ⌝ }
     ensures { λ x. ⌜ ((ref : book.Reference) → Means reference (now (powers .entry)) ref
         → x ≡ quarterAnswer (meaning terms) ref (quarterOf (meaning terms) index (now (r .entry)))) ⌝ }
 {
     let Power::Of(l) = limitation::limit_of(terms, r) else {
         return Exact::OutOfRange;
     };
-    let Numerator::Of(t) = reference::numerator_of(reference, powers, terms, index, r) else {
+    let Numerator::Of(t) = reference::numerator_of(reference, powers, terms, index, clock, r) else {
         return Exact::OutOfRange;
     };
     let direction = terms.direction;

@@ -2,3 +2,4 @@ pub mod Numbers
 pub mod Shown
 pub mod Settling
 pub mod Results
+pub mod Delivering

@@ -86,9 +86,9 @@ module _ (archive : List ℕ) (p k : ℕ) (sheet : List ℕ) (x : Prepared) (h :
     refused-so : hostSettle archive p k (length list) (length result) ≡ refused n
     refused-so = not-settled archive p k list result n (not-ready archive p k sheet x h n e)
 
-    pub refusal-small : n ≤ 17
+    pub refusal-small : n ≤ 255
     refusal-small =
-        subst (λ (o : Outcome Settlement). numberOf o ≤ 17) refused-so
+        subst (λ (o : Outcome Settlement). numberOf o ≤ 255) refused-so
         (number-small settleRefusals refl (hostSettle archive p k (length list) (length result)) (every-call-answers .host-settles archive p k (length list) (length result)))
 
     pub unready : HostSettles archive p k list list result result n

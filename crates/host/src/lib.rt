@@ -1,13 +1,15 @@
-// The calls for the operator's host, written in C (document 01, 'Calls on the archive'); include/sandegmur.h declares them.
+// The calls for the operator's host, written in C (documents 01, 'Calls on the archive', and 02); include/sandegmur.h declares them.
 ghost use mathlib.Core.Path.{_≡_};
 ghost use Prim.Native.Nat.{_/_, _≤_, min};
 ghost use lib.ListN.{length};
 ghost use mathlib.Core.List.{_++_};
 ghost use Rattle.rules.specs.Encoding.{doubleWord};
-ghost use Rattle.rules.specs.Promises.{HostSettles, Freshens, Appends, Audits};
+ghost use Rattle.rules.specs.Promises.{HostSettles, Freshens, Appends, Audits, Delivers};
 ghost use Rattle.host.specs.Shown.{shownPlace};
+use calendar::Delivery;
 use prepare::Prepared;
 use rules::refusal;
+use units::QuarterNumber;
 
 // ---- settle
 
@@ -121,4 +123,18 @@ pub extern "C" fn sandegmur_show(archive: &[u8], number: u64) -> u64
         return archive.len() as u64;
     }
     32 * number
+}
+
+// The delivery day of a quarter (document 02, 1) into a lent number: Monday to Friday, without the days of the list.
+#[no_mangle]
+pub extern "C" fn sandegmur_delivery_day(quarter: u64, holidays: &[u32], day: &mut u64) -> u32
+    ensures { λ r. ⌜ Delivers quarter (now (holidays .entry)) (now (day .entry)) (now (day .exit)) r ⌝ }
+{
+    match calendar::delivery_day(QuarterNumber(quarter), holidays) {
+        Delivery::Refused(number) => number as u32,
+        Delivery::Day(found) => {
+            *day = found.0;
+            0
+        }
+    }
 }

@@ -80,8 +80,8 @@ fn with_curve(archive: &[u8], place: Place, sheet: &mut [u64]) -> Prepared
     on_basis(archive, place, found, &powers, sheet)
 }
 
-// The exact magnitudes into the sheet, as far as it has places: 1 to 12. The archive is lent on as a part of itself, the whole: so the
-// compiler keeps its address in a register.
+// The exact magnitudes into the sheet, as far as it has places: 1 to 12, and 18. The archive is lent on as a part of itself, the whole:
+// so the compiler keeps its address in a register.
 pub fn prepare(archive: &[u8], p: u64, k: u64, sheet: &mut [u64]) -> Prepared
     ensures { λ r. ⌜ Prepares (settled (now (archive .entry)) p k) (now (sheet .exit)) r ⌝ }
 {

@@ -1,26 +1,27 @@
 -- A walk over a measure's quarters, step by step, and what it has gathered at the chain's end.
 use mathlib.Core.Path.{_≡_, refl, sym, _∙_, ap}
-use mathlib.Core.Bool.{Bool, true, false, _&&_, and-true}
+use mathlib.Core.Bool.{Bool, true, false, _&&_, _||_, and-true, and-false}
 use mathlib.Core.List.{List, [], _∷_, _++_, map, append-nil}
-use Prim.Native.Nat.{ℕ, suc, _+_, _*_, _/_, _^_, _≤_, _<_}
+use Prim.Native.Nat.{ℕ, suc, _+_, _*_, _-_, _/_, _^_, _≤_, _<_}
 use native.Mathlib.Numerals.{add-one}
 use native.Mathlib.Nat.{mul-le-mul-right, div-le-of-le-mul}
 use native.Mathlib.Omega.{arith}
 use mir.Syntax.{w64}
 use mir.Val.{Fits}
-use borrow.Author.Tests.{leb-true}
-use lib.Dec.{leb}
+use borrow.Author.Tests.{leb-true, le-leb, lt-leb}
+use lib.Dec.{eqb, leb}
 use lib.ListN.{length, take, set, length-set}
 use lib.Seq.{take-suc-set, append-snoc, set-out}
 use Rattle.rules.specs.Outcome.{Outcome, refused, given, _>>=_, _>>_, require}
-use Rattle.rules.specs.Refusals.{badCount, outOfRange}
+use Rattle.rules.specs.Refusals.{badCount, outOfRange, notInCalendar}
 use Rattle.rules.specs.Numbers.{all, mapFrom}
 use Rattle.rules.specs.Archive.{recordAt, nextOf, Entry, follow, quarterKind, firstQuarter}
 use Rattle.rules.specs.Terms.{Terms, Quarter, quarterOf}
 use Rattle.rules.specs.Reference as book
 use Rattle.rules.specs.Reference.{denominator, exactOf}
 use Rattle.rules.specs.Settle as settle
-use Rattle.rules.specs.Settle.{Basis, quarterChain, quartersRead, readable, quartersOf}
+use Rattle.rules.specs.Settle.{Basis, quarterChain, quartersRead, readable, datesAllowed, quartersOf}
+use Rattle.rules.proofs.Calendar.{Order, before, same, behind, order}
 use Rattle.rules.proofs.Bounds as bounds
 use Rattle.rules.proofs.Bounds.{exact-small}
 use Rattle.rules.proofs.Inversion.{same-given}
@@ -162,17 +163,22 @@ module _ (archive : List ℕ) (place : settle.Place) (basis : Basis) where
       unfolding quartersOf _>>=_ _>>_ require
       walked-unreadable f = walked-refused (g .sheet) outOfRange (rw (h .are, ← h .count, counted, ← h .fine, f))
 
-      quarters-read : g .fine ≡ true → quartersOf archive place basis ≡ given (quartersRead place (h .entries))
+      walked-late : g .fine ≡ true → datesAllowed (place .terms) (g .count) ≡ false → WalkedBy archive place basis (g .sheet) (walked.Refused notInCalendar)
       unfolding quartersOf _>>=_ _>>_ require
-      quarters-read f = rw (h .are, ← h .count, counted, ← h .fine, f)
+      walked-late f l = walked-refused (g .sheet) notInCalendar (rw (h .are, ← h .count, counted, ← h .fine, f, l))
+
+      quarters-read : g .fine ≡ true → datesAllowed (place .terms) (g .count) ≡ true → quartersOf archive place basis ≡ given (quartersRead place (h .entries))
+      unfolding quartersOf _>>=_ _>>_ require
+      quarters-read f l = rw (h .are, ← h .count, counted, ← h .fine, f, l)
 
       few : length (h .entries) ≤ 2976
       few = omega (arith, leb-true (g .count) 2976 (both (leb 1 (g .count)) _ counted .1), h .count)
 
-      walked-given : g .fine ≡ true → bounds.Bounded (basis .reference) → WalkedBy archive place basis (g .sheet) (walked.Count (g .count))
-      walked-given f bounded =
+      walked-given : g .fine ≡ true → datesAllowed (place .terms) (g .count) ≡ true → bounds.Bounded (basis .reference)
+          → WalkedBy archive place basis (g .sheet) (walked.Count (g .count))
+      walked-given f l bounded =
           let size : length (quartersRead place (h .entries)) ≡ length (h .entries) = map-from-length _ 0 (h .entries) in
-          let is = quarters-read f in
+          let is = quarters-read f l in
           record {
             answers = rw (is, size) (ap walked.Count (h .count));
             writes = λ quarters i k.
@@ -236,9 +242,14 @@ module _ {archive powers start : List ℕ} {reference : Reference} {first last l
       pub walks-unreadable : g .fine ≡ false → Walks archive place reference powers (g .sheet) (walked.Refused outOfRange)
       walks-unreadable f = record { by = λ basis m. walked-unreadable archive (meant archive place) basis g (ends basis m) counted f }
 
-      pub walks-given : g .fine ≡ true → Bounded reference → Walks archive place reference powers (g .sheet) (walked.Count (g .count))
-      walks-given f bounded = record {
-        by = λ basis m. walked-given archive (meant archive place) basis g (ends basis m) counted f (means-bounded reference powers (basis .reference) m bounded);
+      pub walks-late : g .fine ≡ true → datesAllowed (meaning (place .terms)) (g .count) ≡ false
+          → Walks archive place reference powers (g .sheet) (walked.Refused notInCalendar)
+      walks-late f l = record { by = λ basis m. walked-late archive (meant archive place) basis g (ends basis m) counted f l }
+
+      pub walks-given : g .fine ≡ true → datesAllowed (meaning (place .terms)) (g .count) ≡ true → Bounded reference
+          → Walks archive place reference powers (g .sheet) (walked.Count (g .count))
+      walks-given f l bounded = record {
+        by = λ basis m. walked-given archive (meant archive place) basis g (ends basis m) counted f l (means-bounded reference powers (basis .reference) m bounded);
       }
 
 -- ---- a place of the sheet
@@ -249,3 +260,27 @@ module _ (sheet : List ℕ) (count m : ℕ) (magnitude : Exact) (e : magnitude �
 
   pub entered-at : (true ≡ isInRange magnitude) × (set sheet count m ≡ entered sheet count magnitude)
   entered-at = rw e (refl, refl)
+
+-- ---- the calendar's end
+
+-- the last quarter isn't past the end where the first leaves room for the others
+pub dates-allowed : (terms : Terms) (count : ℕ) → 1 ≤ count → count ≤ 2976
+    → (eqb (terms .first) 0 || leb (terms .first) (3506400 - (count - 1))) ≡ datesAllowed terms count
+unfolding datesAllowed
+dates-allowed terms count some few = ap (λ (t : Bool). eqb (terms .first) 0 || t) (by (order (terms .first + (count - 1)) 3506401))
+  where
+    past : 3506401 ≤ terms .first + (count - 1)
+        → leb (terms .first) (3506400 - (count - 1)) ≡ (leb (terms .first + 0) 3506400 && leb (terms .first + (count - 1)) 3506400)
+    past h =
+        rw (lt-leb (terms .first) (3506400 - (count - 1)) (omega arith), lt-leb (terms .first + (count - 1)) 3506400 (omega arith)) (sym (and-false (leb (terms .first + 0) 3506400)))
+
+    by : Order (terms .first + (count - 1)) 3506401
+        → leb (terms .first) (3506400 - (count - 1)) ≡ (leb (terms .first + 0) 3506400 && leb (terms .first + (count - 1)) 3506400)
+    by (before b) =
+        rw (le-leb (terms .first) (3506400 - (count - 1)) (omega arith), le-leb (terms .first + 0) 3506400 (omega arith), le-leb (terms .first + (count - 1)) 3506400 (omega arith))
+    by (same e) = past (omega arith)
+    by (behind b) = past (omega arith)
+
+-- so many quarters were counted
+pub counted-from : (count : ℕ) → (leb 1 count && leb count 2976) ≡ true → (1 ≤ count) × (count ≤ 2976)
+counted-from count e = let b = both (leb 1 count) (leb count 2976) e in (leb-true 1 count (b .0), leb-true count 2976 (b .1))

@@ -31,7 +31,7 @@ entered sheet count exact.OutOfRange = sheet
 
 -- ---- all quarters
 
--- the count of quarters; or 2, 3, 8 or 9
+-- the count of quarters; or 2, 3, 8, 9 or 18
 abbrev pub walkedAnswer : Outcome (List Quarter) → Walked
 walkedAnswer (refused n) = walked.Refused n
 walkedAnswer (given quarters) = walked.Count (length quarters)

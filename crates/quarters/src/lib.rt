@@ -2,7 +2,10 @@
 // written into a sheet.
 ghost use mathlib.Core.Path.{_≡_};
 ghost use mathlib.Core.Bool.{_&&_};
+ghost use Prim.Native.Nat.{_≤_};
 ghost use lib.Dec.{leb};
+ghost use Rattle.rules.specs.Settle.{datesAllowed};
+ghost use Rattle.terms.specs.Meanings.{meaning};
 ghost use Rattle.place.specs.Places.{Lies};
 ghost use Rattle.reference.specs.References.{Divided};
 ghost use Rattle.quarters.specs.Walks.{isInRange, entered, Walks};
@@ -12,6 +15,7 @@ use place::Place;
 use reference::Reference;
 use rules::kind;
 use rules::refusal;
+use terms::Terms;
 
 // A magnitude goes to its place of the sheet, if the sheet has that place; the answer is whether it is in range.
 fn enter(sheet: &mut [u64], count: usize, magnitude: Exact) -> bool
@@ -34,14 +38,23 @@ fn in_count_range(count: usize) -> bool
     (1 <= count) & (count <= 2976)
 }
 
-// The count of quarters, or a refusal: 2, 3, 8 or 9.
+// A dated measure's last of so many quarters isn't past the calendar's end, and so neither is the first.
+fn in_calendar(terms: Terms, count: usize) -> bool
+    requires { ⌜ (1 ≤ count) × (count ≤ 2976) ⌝ }
+    ensures { λ t. ⌜ t ≡ datesAllowed (meaning terms) count ⌝ }
+{
+    let first = terms.first;
+    (first.0 == 0) | (first.0 <= calendar::LAST_QUARTER - (count as u64 - 1))
+}
+
+// The count of quarters, or a refusal: 2, 3, 8, 9 or 18.
 pub enum Walked {
     Count(u64),
     Refused(u64),
 }
 
-// The chain is walked to its end, however long, before 8 and then 9 are tested; d is D. A sheet of any length will do: a magnitude that
-// has no place there is tested and counted only.
+// The chain is walked to its end, however long, before 8, then 9 and then 18 are tested; d is D. A sheet of any length will do: a magnitude
+// that has no place there is tested and counted only.
 pub fn walk(
     archive: &[u8],
     place: Place,
@@ -60,6 +73,7 @@ pub fn walk(
     let mut link = record::link_of(archive, last, 12);
     let mut count: usize = 0;
     let mut fine = true;
+    let mut clock = reference::starts(reference, terms);
     while link != 0 {
         let answer = chains::follow(archive, used, kind::QUARTER, last, link);
         let Link::At(n) = answer else {
@@ -70,6 +84,7 @@ pub fn walk(
         let magnitude = exact::exact_of(
             terms,
             index,
+            clock,
             reference,
             d,
             powers,
@@ -77,6 +92,7 @@ pub fn walk(
         );
         fine = enter(sheet, count, magnitude) & fine;
         count += 1;
+        clock = calendar::after(clock, count as u64);
         last = n;
         link = record::link_of(archive, n, 4);
     }
@@ -86,6 +102,9 @@ pub fn walk(
     }
     if !fine {
         return Walked::Refused(refusal::OUT_OF_RANGE);
+    }
+    if !in_calendar(terms, count) {
+        return Walked::Refused(refusal::NOT_IN_CALENDAR);
     }
     Walked::Count(count as u64)
 }

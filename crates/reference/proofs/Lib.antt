@@ -1,3 +1,4 @@
 pub mod Products
 pub mod References
 pub mod Referred
+pub mod Times

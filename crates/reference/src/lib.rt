@@ -1,13 +1,17 @@
 // The reference power T of a measure's quarters (document 01, 'Reference power T'): a numerator over one denominator D.
 ghost use mathlib.Core.Path.{_≡_};
-ghost use Prim.Native.Nat.{ℕ, _<_};
+ghost use mathlib.Core.Bool.{true};
+ghost use Prim.Native.Nat.{ℕ, _+_, _≤_, _<_};
 ghost use lib.ListN.{length};
 ghost use Rattle.rules.specs.Numbers.{orZero, smaller};
 ghost use Rattle.rules.specs.Archive.{byteAt, fieldAt};
-ghost use Rattle.rules.specs.Terms.{Quarter, monthOf, quarterOfDayOf, quarterOf};
+ghost use Rattle.rules.specs.Terms.{Quarter, quarterOf};
 ghost use Rattle.rules.specs.Reference as book;
 ghost use Rattle.terms.specs.Meanings.{meaning};
+ghost use Rattle.calendar.specs.Clocks.{Begins};
 ghost use Rattle.reference.specs.References.{Bounded, Held, Means, Divides, ReferredTo};
+ghost use Rattle.reference.specs.Times.{monthAt, quarterOfDayAt, timeOf};
+use calendar::Clock;
 use curve::Curve;
 use record::Power;
 use terms::Terms;
@@ -51,18 +55,38 @@ fn byte_at(r: &[u8], at: usize) -> u64
     r[at] as u64
 }
 
-fn month_of(terms: Terms, index: u64, r: &[u8]) -> u64
+fn month_of(clock: Clock, r: &[u8]) -> u64
     requires { ⌜ length (now r) ≡ 32 ⌝ }
-    ensures { λ n. ⌜ n ≡ monthOf (meaning terms) index (now (r .entry)) ⌝ }
+    ensures { λ n. ⌜ n ≡ monthAt clock (now (r .entry)) ⌝ }
 {
-    byte_at(r, 1)
+    if !clock.dated {
+        return byte_at(r, 1);
+    }
+    clock.date.month
 }
 
-fn quarter_of_day_of(terms: Terms, index: u64, r: &[u8]) -> u64
+fn quarter_of_day_of(clock: Clock, index: u64, r: &[u8]) -> u64
+    requires { ⌜ (clock .dated ≡ true → (index ≤ clock .until) × (clock .until ≤ index + 96)) ⌝ }
     requires { ⌜ length (now r) ≡ 32 ⌝ }
-    ensures { λ n. ⌜ n ≡ quarterOfDayOf (meaning terms) index (now (r .entry)) ⌝ }
+    ensures { λ n. ⌜ n ≡ quarterOfDayAt clock index (now (r .entry)) ⌝ }
 {
-    byte_at(r, 2)
+    if !clock.dated {
+        return byte_at(r, 2);
+    }
+    96 - (clock.until - index)
+}
+
+// The clock of the measure's first quarter, where T is by the time: solar Pauschal alone reads it.
+pub fn starts(reference: Reference, terms: Terms) -> Clock
+    ensures { λ c. ⌜ Begins (timeOf reference (meaning terms)) c ⌝ }
+{
+    match reference {
+        Reference::OnCurve(_, _, _, _) => calendar::UNDATED,
+        Reference::LastMeasured(_) => calendar::UNDATED,
+        Reference::OnIrradiance(_, _) => calendar::UNDATED,
+        Reference::ByFactor(_) => calendar::clock_of(terms.first),
+        Reference::AsPlanned => calendar::UNDATED,
+    }
 }
 
 // ---- the numerator of T over D
@@ -135,15 +159,17 @@ fn as_planned(r: &[u8]) -> Numerator
     Numerator::Of(planned.0)
 }
 
-// Of a measure's quarter, from its index along the chain and its own 32 bytes.
+// Of a measure's quarter, from its index along the chain, its clock, and its own 32 bytes.
 pub fn numerator_of(
     reference: Reference,
     powers: &[u32],
     terms: Terms,
     index: u64,
+    clock: Clock,
     r: &[u8],
 ) -> Numerator
     requires { ⌜ Held reference (now powers) ⌝ }
+    requires { ⌜ clock ≡ timeOf reference (meaning terms) index ⌝ }
     requires { ⌜ length (now r) ≡ 32 ⌝ }
     ensures { λ n. ⌜ ((ref : book.Reference) → Means reference (now (powers .entry)) ref
         → ReferredTo ref (quarterOf (meaning terms) index (now (r .entry))) n) ⌝ }
@@ -154,8 +180,8 @@ pub fn numerator_of(
         Reference::OnIrradiance(a, b) => on_irradiance(a, b, r),
         Reference::ByFactor(pn) => by_factor(
             pn,
-            month_of(terms, index, r),
-            quarter_of_day_of(terms, index, r),
+            month_of(clock, r),
+            quarter_of_day_of(clock, index, r),
         ),
         Reference::AsPlanned => as_planned(r),
     }

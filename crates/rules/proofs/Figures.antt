@@ -11,10 +11,11 @@ use borrow.Author.Tests.{eqb-true}
 use Rattle.rules.specs.Outcome.{given, _>>=_, _>>_, require}
 use Rattle.rules.specs.Numbers.{smaller, larger, all}
 use Rattle.rules.specs.Archive.{isWhole, linkAt, twos, fieldAt, recordAt, usedOf, follow, chain}
-use Rattle.rules.specs.Terms.{plantAllowed, measureAllowed, pointOf, pointAllowed, beforeOf, quarterOf}
+use Rattle.rules.specs.Calendar.{isLeapYear, yearLength, monthLengths, monthLength, dateOf, dayNumber, nextFirst, dayAfter, weekdayOf, dayOf, quarterOfDay, isWorkingDay, workingDays, nextMonth, deliveryDay}
+use Rattle.rules.specs.Terms.{monthOf, quarterOfDayOf, plantAllowed, measureAllowed, pointOf, pointAllowed, beforeOf, quarterOf}
 use Rattle.rules.specs.Reference.{limitation, readCurve, curvePower, factorRows, isFor, plantFactor, numerator, magnitude, exactOf}
 use Rattle.rules.specs.Booking.{amountsOf}
-use Rattle.rules.specs.Settle.{admitted, placeOf, pointsOf, beforesOf, windBasis, firstMarked, solarBasis, basisBy, quartersOf, settled, settle}
+use Rattle.rules.specs.Settle.{admitted, placeOf, pointsOf, beforesOf, windBasis, firstMarked, solarBasis, basisBy, datesAllowed, quartersOf, settled, settle}
 use Rattle.rules.specs.Fractions.{exactFractions}
 use Rattle.rules.specs.Encoding.{word, doubleWord, encoded, put}
 use Rattle.rules.specs.Host.{hostSettle}
@@ -29,11 +30,11 @@ use Rattle.rules.proofs.Output.{output-long, output-given, lines-no-pla
 
 -- ---- equality by a test: one Bool is computed, where two lists compared by conversion compute each entry several times
 
-record Equality (A : Type 0) : Type 0 where
-  same : A → A → Bool
-  equal : (a b : A) → same a b ≡ true → a ≡ b
+pub record Equality (A : Type 0) : Type 0 where
+  pub same : A → A → Bool
+  pub equal : (a b : A) → same a b ≡ true → a ≡ b
 
-naturals : Equality ℕ
+pub naturals : Equality ℕ
 naturals = record { same = eqb; equal = eqb-true }
 
 abbrev sameℤ : ℤ → ℤ → Bool
@@ -48,7 +49,7 @@ equalℤ (pos a) (negsuc b) e = cc
 equalℤ (negsuc a) (pos b) e = cc
 equalℤ (negsuc a) (negsuc b) e = ap negsuc (eqb-true a b e)
 
-integers : Equality ℤ
+pub integers : Equality ℤ
 integers = record { same = sameℤ; equal = equalℤ }
 
 module _ {A : Type 0} (on : Equality A) where
@@ -64,13 +65,13 @@ module _ {A : Type 0} (on : Equality A) where
   equalList (a ∷ k) [] e = cc
   equalList (a ∷ k) (b ∷ l) e = let t = both (on .same a b) (sameList k l) e in ap₂ _∷_ (on .equal a b (t .0)) (equalList k l (t .1))
 
-  lists : Equality (List A)
+  pub lists : Equality (List A)
   lists = record { same = sameList; equal = equalList }
 
-  abbrev agree : A × A → Bool
+  abbrev pub agree : A × A → Bool
   agree entry = on .same (entry .0) (entry .1)
 
-  hold : (entries : List (A × A)) → all agree entries ≡ true → Hold entries
+  pub hold : (entries : List (A × A)) → all agree entries ≡ true → Hold entries
   hold [] e = refl
   hold (x ∷ xs) e = let t = both (agree x) (all agree xs) e in ap₂ _∷_ (on .equal (x .0) (x .1) (t .0)) (hold xs (t .1))
 
@@ -78,7 +79,7 @@ module _ {A : Type 0} (on : Equality A) where
 
 -- to unfold this is to unfold every definition that the examples compute with
 unfoldable pub rules : Unit {0}
-unfolding naturals integers lists _>>=_ _>>_ require smaller larger linkAt twos fieldAt recordAt usedOf follow chain plantAllowed measureAllowed pointOf pointAllowed beforeOf quarterOf limitation readCurve curvePower factorRows isFor plantFactor numerator magnitude exactOf amountsOf admitted placeOf pointsOf beforesOf windBasis firstMarked solarBasis basisBy quartersOf settled settle exactFractions word doubleWord encoded put hostSettle ownedBy linksOf ownedAt linksAt linkPlaces namers fresh offsetFor appendAfter append shown linkChecked recordChecked audit fileAll unlinked readUnder readBack linesFrom output decimal textOfAll flatMap caseA windCase plannedCase caseF caseG factorCase caseK fiveBefores twoPlants filingsA
+unfolding naturals integers lists _>>=_ _>>_ require smaller larger linkAt twos fieldAt recordAt usedOf follow chain plantAllowed measureAllowed pointOf pointAllowed beforeOf quarterOf limitation readCurve curvePower factorRows isFor plantFactor numerator magnitude exactOf amountsOf admitted placeOf pointsOf beforesOf windBasis firstMarked solarBasis basisBy quartersOf settled settle exactFractions word doubleWord encoded put hostSettle ownedBy linksOf ownedAt linksAt linkPlaces namers fresh offsetFor appendAfter append shown linkChecked recordChecked audit fileAll unlinked readUnder readBack linesFrom output decimal textOfAll flatMap caseA windCase plannedCase caseF caseG factorCase caseK fiveBefores twoPlants filingsA isLeapYear yearLength monthLengths monthLength dateOf dayNumber nextFirst dayAfter weekdayOf dayOf quarterOfDay isWorkingDay workingDays nextMonth deliveryDay monthOf quarterOfDayOf datesAllowed
 rules = tt
 
 pub figures-hold : Hold figures

@@ -1,5 +1,7 @@
 pub mod Ints
 pub mod Inversion
+pub mod Calendar
+pub mod Delivery
 pub mod Chains
 pub mod Parts
 pub mod Lists
@@ -28,6 +30,7 @@ pub mod PlacesOnChains
 pub mod Output
 pub mod Ranges
 pub mod Figures
+pub mod DateFigures
 pub mod RaisedExample
 pub mod Walks
 pub mod Folds

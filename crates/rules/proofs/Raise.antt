@@ -14,7 +14,8 @@ use Rattle.rules.specs.Outcome.{Outcome, given, _>>=_, _>>_, require}
 use Rattle.rules.specs.Refusals.{settleRefusals}
 use Rattle.rules.specs.Numbers.{sumℤ, member, mapFrom}
 use Rattle.rules.specs.Archive.{byteAt, linkAt, fieldAt, recordAt, kindOf, nextOf, isText, usedOf, Entry, entryAt, follow, chainFrom, chain}
-use Rattle.rules.specs.Terms.{Terms, Quarter, quarterOf}
+use Rattle.rules.specs.Calendar.{dateOf, dayOf, quarterOfDay}
+use Rattle.rules.specs.Terms.{Terms, numberAt, monthOf, quarterOfDayOf, Quarter, quarterOf}
 use Rattle.rules.specs.Settle.{Place, placeOf, Basis, quarterChain, quartersRead, measureDenominator, Settlement, settlementOf, settle, Answer, answerOf, listAfter}
 use Rattle.rules.specs.Fractions.{quarterNumbers, Raised}
 use Rattle.rules.specs.Promises.{Settles}
@@ -92,10 +93,10 @@ there n m ns k = rw k (or-true (eqb n m))
 
 module _ (a b : List ℕ) (p k : ℕ) (g : Agree a b) (raised : Raised a b p k) (terms : Terms) where
   quarter-higher : (n index : ℕ) → member n (quarterNumbers a p k) ≡ true → Higher (quarterOf terms index (recordAt a n)) (quarterOf terms index (recordAt b n))
-  unfolding quarterOf
+  unfolding quarterOf monthOf quarterOfDayOf
   quarter-higher n index m = record {
-    month = g .outside n 1 (lit< tt) tt;
-    quarterOfDay = g .outside n 2 (lit< tt) tt;
+    month = ap (λ (b : ℕ). cond (eqb (terms .first) 0) b (dateOf (dayOf (numberAt terms index)) .month)) (g .outside n 1 (lit< tt) tt);
+    quarterOfDay = ap (λ (b : ℕ). cond (eqb (terms .first) 0) b (quarterOfDay (numberAt terms index))) (g .outside n 2 (lit< tt) tt);
     weather = word-same (recordAt a n) (recordAt b n) 16 (g .outside n 16 (lit< tt) tt) (g .outside n 17 (lit< tt) tt) (g .outside n 18 (lit< tt) tt) (g .outside n 19 (lit< tt) tt);
     planned = word-same (recordAt a n) (recordAt b n) 20 (g .outside n 20 (lit< tt) tt) (g .outside n 21 (lit< tt) tt) (g .outside n 22 (lit< tt) tt) (g .outside n 23 (lit< tt) tt);
     measured = raised .measured-no-lower n m;

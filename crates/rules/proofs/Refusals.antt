@@ -7,8 +7,9 @@ use borrow.Author.Tests.{eqb-true}
 use lib.Dec.{eqb}
 use lib.ListN.{length}
 use Rattle.rules.specs.Outcome.{Outcome, refused, given, _>>=_, _>>_, require, numberOf, after}
-use Rattle.rules.specs.Refusals.{notArchive, badLink, wrongKind, settleRefusals, appendRefusals, auditRefusals}
+use Rattle.rules.specs.Refusals.{notArchive, badLink, wrongKind, settleRefusals, appendRefusals, auditRefusals, deliveryDayRefusals}
 use Rattle.rules.specs.Numbers.{member}
+use Rattle.rules.specs.Calendar.{deliveryDay}
 use Rattle.rules.specs.Archive.{linkAt, usedOf, nextOf, Entry, follow, atPlace, chainFrom, chain}
 use Rattle.rules.specs.Terms.{Technology, wind, solar, other, Variant, spitz, pauschal, Point, Before}
 use Rattle.rules.specs.Settle.{Place, Basis, admitted, placeOf, pointsOf, beforesOf, windBasis, firstMarked, solarBasis, pauschalBasis, basisBy, quartersOf, Settlement, settled, settle, Answer, answerOf}
@@ -143,7 +144,7 @@ by-within other pauschal archive place = pauschal-within archive place
 quarters-within : (archive : List ℕ) (place : Place) (basis : Basis) → RefusedWithin settleRefusals (quartersOf archive place basis)
 unfolding quartersOf
 quarters-within archive place basis =
-    within-bind _ _ (within-chain refl refl archive _ 5 _ _) (λ entries. within-test _ 8 _ refl (within-test _ 9 _ refl (within-given _)))
+    within-bind _ _ (within-chain refl refl archive _ 5 _ _) (λ entries. within-test _ 8 _ refl (within-test _ 9 _ refl (within-test _ 18 _ refl (within-given _))))
 
 settled-within : (archive : List ℕ) (p k : ℕ) → RefusedWithin settleRefusals (settled archive p k)
 unfolding settled
@@ -205,6 +206,10 @@ unfolding audit
 audit-within archive =
     within-bind _ _ (within-used refl archive) (λ used. within-then _ _ (records-within archive used used) (within-require _ 17 refl))
 
+delivers-within : (quarter : ℕ) (holidays : List ℕ) → RefusedWithin deliveryDayRefusals (deliveryDay quarter holidays)
+unfolding deliveryDay
+delivers-within quarter holidays = within-test _ 18 _ refl (within-given _)
+
 pub every-call-answers : EveryCallAnswers
 unfolding fresh
 every-call-answers = record {
@@ -213,6 +218,7 @@ every-call-answers = record {
   freshens = λ archive. within-test _ 1 _ refl (within-given _);
   appends = append-within;
   audits = audit-within;
+  delivers = delivers-within;
 }
 
 -- ---- a refused call changes nothing
@@ -240,4 +246,5 @@ refusals-change-nothing = record {
       (h .leaves-list ∙ kept o _ list number (h .answers) f, h .leaves-result ∙ kept o _ result number (h .answers) f);
   freshens = λ archive later number h f. h .leaves ∙ kept (fresh archive) _ archive number (h .answers) f;
   appends = λ archive owner new later number h f. h .leaves ∙ kept (append archive owner new) _ archive number (h .answers) f;
+  delivers = λ quarter holidays was day number h f. h .leaves ∙ kept (deliveryDay quarter holidays) _ was number (h .answers) f;
 }

@@ -42,7 +42,7 @@ pub record ReadFrom (archive : List ℕ) (place : Place) (quarters : List Quarte
 pub read-from : (archive : List ℕ) (place : Place) (basis : Basis) → Holds (ReadFrom archive place) (quartersOf archive place basis)
 unfolding quartersOf
 read-from archive place basis =
-    holds-bind _ _ (λ es e. holds-require _ 8 _ (λ t. holds-require _ 9 _ (λ t. holds-given _ (record { entries = es; are = e; read = refl }))))
+    holds-bind _ _ (λ es e. holds-require _ 8 _ (λ t. holds-require _ 9 _ (λ t. holds-require _ 18 _ (λ t. holds-given _ (record { entries = es; are = e; read = refl })))))
 
 -- a measure has 1 to 2,976 quarters
 pub record Counted (n : ℕ) : Type 0 where
@@ -52,10 +52,10 @@ pub record Counted (n : ℕ) : Type 0 where
 pub quarters-counted : (archive : List ℕ) (place : Place) (basis : Basis) → Holds (λ (quarters : List Quarter). Counted (length quarters)) (quartersOf archive place basis)
 unfolding quartersOf
 quarters-counted archive place basis =
-    holds-bind _ _ (λ es e. holds-require _ 8 _ (λ t. holds-require _ 9 _ (λ u. holds-given _ (record {
+    holds-bind _ _ (λ es e. holds-require _ 8 _ (λ t. holds-require _ 9 _ (λ u. holds-require _ 18 _ (λ u. holds-given _ (record {
       some = omega (arith, read-length es, leb→le 1 (length es) (both-left (leb 1 (length es)) (leb (length es) 2976) t));
       few = omega (arith, read-length es, leb→le (length es) 2976 (both-right (leb 1 (length es)) (leb (length es) 2976) t));
-    }))))
+    })))))
   where
     read-length : (es : List Entry) → length (quartersRead place es) ≡ length es
     read-length es = map-from-length _ 0 es

@@ -1,21 +1,23 @@
 -- The demands as statements; proofs/ proves each.
-use Prim.Native.Nat.{ℕ, _+_, _/_, _≤_, _<_}
+use Prim.Native.Nat.{ℕ, _+_, _-_, _/_, _≤_, _<_}
 use mathlib.Core.Path.{_≡_}
-use mathlib.Core.Bool.{Bool, true}
+use mathlib.Core.Bool.{Bool, true, false}
 use mathlib.Core.List.{List}
 use lib.IntN.{ℤ}
 use lib.Signed.{_≤ℤ_}
 use lib.ListN.{length, take}
 use Rattle.rules.specs.Outcome.{Outcome, refused, given, numberOf}
-use Rattle.rules.specs.Refusals.{settleRefusals, freshRefusals, appendRefusals, auditRefusals}
-use Rattle.rules.specs.Numbers.{sumℤ, member}
+use Rattle.rules.specs.Refusals.{settleRefusals, freshRefusals, appendRefusals, auditRefusals, deliveryDayRefusals}
+use Rattle.rules.specs.Numbers.{sumℤ, member, keep}
+use Rattle.rules.specs.Calendar.{Date, monthLength, dated, dateOf, dayNumber, nextFirst, dayAfter, saturday, following, weekdayOf, isMondayToFriday, dayOf}
+use Rattle.rules.specs.Calendar.{isWorkingDay, daysFrom, workingDays, nextMonth, deliveryDay}
 use Rattle.rules.specs.Archive.{kindOf, usedOf}
 use Rattle.rules.specs.Settle.{Answer, answerOf, settle, listAfter}
 use Rattle.rules.specs.Fractions.{Raised}
 use Rattle.rules.specs.Host.{hostSettle}
 use Rattle.rules.specs.Filing.{fresh, newAllowed, offsetFor, append}
 use Rattle.rules.specs.Audit.{audit, Sound}
-use Rattle.rules.specs.Promises.{Settles, HostSettles, Freshens, Appends}
+use Rattle.rules.specs.Promises.{Settles, HostSettles, Freshens, Appends, Delivers}
 use Rattle.rules.specs.ReadBack.{Filing, fileAll, Filed}
 
 -- ---- demand 1: an answer or the one refusal; a refused call changes nothing
@@ -30,6 +32,7 @@ pub record EveryCallAnswers : Type 0 where
   pub freshens : (archive : List ℕ) → RefusedWithin freshRefusals (fresh archive)
   pub appends : (archive : List ℕ) (owner : ℕ) (new : List ℕ) → RefusedWithin appendRefusals (append archive owner new)
   pub audits : (archive : List ℕ) → RefusedWithin auditRefusals (audit archive)
+  pub delivers : (quarter : ℕ) (holidays : List ℕ) → RefusedWithin deliveryDayRefusals (deliveryDay quarter holidays)
 
 -- show and audit are lent the archive for reading alone, settle too
 pub record RefusalsChangeNothing : Type 0 where
@@ -40,6 +43,7 @@ pub record RefusalsChangeNothing : Type 0 where
   pub freshens : (archive later : List ℕ) (number : ℕ) → Freshens archive later number → (number ≡ 0 → ⊥) → later ≡ archive
   pub appends : (archive : List ℕ) (owner : ℕ) (new later : List ℕ) (number : ℕ) → Appends archive owner new later number
       → (number ≡ 0 → ⊥) → later ≡ archive
+  pub delivers : (quarter : ℕ) (holidays : List ℕ) (was day number : ℕ) → Delivers quarter holidays was day number → (number ≡ 0 → ⊥) → day ≡ was
 
 -- ---- demand 2: what is filed is read again
 
@@ -73,3 +77,40 @@ RunningTotalsFall =
     → Settles first p k list₁ later₁ answer₁ → Settles second p k list₂ later₂ answer₂
     → answer₁ .number ≡ 0 → answer₂ .number ≡ 0 → Raised first second p k
     → (answer₂ .count ≡ answer₁ .count) × ((n : ℕ) → n ≤ answer₁ .count → sumℤ (take n later₂) ≤ℤ sumℤ (take n later₁))
+
+-- ---- the calendar (02, 1)
+
+-- months are 1 to 12, and a month has its days
+pub record IsDate (d : Date) : Type 0 where
+  pub since : 2000 ≤ d .year
+  pub month-some : 1 ≤ d .month
+  pub month-few : d .month ≤ 12
+  pub day-some : 1 ≤ d .day
+  pub day-few : d .day ≤ monthLength (d .year) (d .month)
+
+-- every day number from 1 on is one date, from which the number comes back, and the next is the day after; so are weekdays
+pub record DaysFollow : Type 0 where
+  pub first-date : dateOf 1 ≡ dated 2000 1 1
+  pub next-date : (day : ℕ) → 1 ≤ day → dateOf (day + 1) ≡ dayAfter (dateOf day)
+  pub is-date : (day : ℕ) → 1 ≤ day → IsDate (dateOf day)
+  pub comes-back : (day : ℕ) → 1 ≤ day → dayNumber (dateOf day) ≡ day
+  pub first-weekday : weekdayOf 1 ≡ saturday
+  pub next-weekday : (day : ℕ) → 1 ≤ day → weekdayOf (day + 1) ≡ following (weekdayOf day)
+
+-- a delivery day that isn't 0: in the month after the quarter's, Monday to Friday, not on the list, and three such days of its month before it
+pub record IsDeliveryDay (quarter : ℕ) (holidays : List ℕ) (day : ℕ) : Type 0 where
+  pub year-is : dateOf day .year ≡ nextFirst (dateOf (dayOf quarter)) .year
+  pub month-is : dateOf day .month ≡ nextFirst (dateOf (dayOf quarter)) .month
+  pub weekday : isMondayToFriday (weekdayOf day) ≡ true
+  pub not-listed : member day holidays ≡ false
+  pub fourth : length (keep (isWorkingDay holidays) (daysFrom (day + 1 - dateOf day .day) (dateOf day .day - 1))) ≡ 3
+
+-- every delivery day that is given: 0 where that month has fewer than four working days, and there alone
+pub record DeliveryDays : Type 0 where
+  pub fourth : (quarter : ℕ) (holidays : List ℕ) (day : ℕ) → deliveryDay quarter holidays ≡ given day → (day ≡ 0 → ⊥) → IsDeliveryDay quarter holidays day
+  pub none : (quarter : ℕ) (holidays : List ℕ) (day : ℕ) → deliveryDay quarter holidays ≡ given day → day ≡ 0
+      → length (workingDays holidays (nextMonth (dayOf quarter))) < 4
+  pub fewer : (quarter : ℕ) (holidays : List ℕ) (day : ℕ) → deliveryDay quarter holidays ≡ given day
+      → length (workingDays holidays (nextMonth (dayOf quarter))) < 4 → day ≡ 0
+  -- the month whose working days these are is the next one
+  pub begins : (day : ℕ) → 1 ≤ day → dateOf (nextMonth day) ≡ nextFirst (dateOf day)

@@ -197,9 +197,9 @@ number o = pos (numberOf o) ∷ []
 abbrev pointAt : ℕ → ℕ → Point
 pointAt speed power = record { speed = speed; power = power }
 
-abbrev bit : Bool → ℤ
-bit true = pos 1
-bit false = pos 0
+abbrev pub bit : Bool → ℕ
+bit true = 1
+bit false = 0
 
 unfoldable pub figures : List (List ℤ × List ℤ)
 figures =
@@ -224,7 +224,7 @@ figures =
     -- i
     ∷ (settling caseI 1 1 2, settles 2 (pos 69900) 4 (pos 69900 ∷ pos 0 ∷ []))
     -- j
-    ∷ (map (λ m. bit (usable 2000000 (record { measured = pos m; weather = pos 100 }))) (200000 ∷ 199999 ∷ []), pos 1 ∷ pos 0 ∷ [])
+    ∷ (map (λ m. pos (bit (usable 2000000 (record { measured = pos m; weather = pos 100 })))) (200000 ∷ 199999 ∷ []), pos 1 ∷ pos 0 ∷ [])
     ∷ (settling (caseJ 200000) 1 1 1, settlesOne (pos 184375) 9)
     ∷ (settling (caseJ 199999) 1 1 1, refuses 11 1)
     -- k

@@ -1,6 +1,7 @@
 pub mod Outcome
 pub mod Refusals
 pub mod Numbers
+pub mod Calendar
 pub mod Archive
 pub mod Terms
 pub mod Reference
@@ -17,3 +18,4 @@ pub mod Output
 pub mod Promises
 pub mod Demands
 pub mod Figures
+pub mod DateFigures

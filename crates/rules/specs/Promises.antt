@@ -7,7 +7,8 @@ use mathlib.Core.List.{List}
 use lib.IntN.{ℤ}
 use lib.ListN.{length}
 use denote.Ref.{RefT}
-use Rattle.rules.specs.Outcome.{given, numberOf}
+use Rattle.rules.specs.Outcome.{given, numberOf, after}
+use Rattle.rules.specs.Calendar.{deliveryDay}
 use Rattle.rules.specs.Archive.{usedOf}
 use Rattle.rules.specs.Settle.{settle, Answer, answerOf, listAfter}
 use Rattle.rules.specs.Fractions.{Fractions, exactFractions, Exact}
@@ -50,3 +51,8 @@ pub record Shows (archive : RefT (List ℕ)) (n : ℕ) (part : RefT (List ℕ)) 
 
 pub record Audits (archive : List ℕ) (number : ℕ) : Type 0 where
   pub answers : number ≡ numberOf (audit archive)
+
+-- the delivery day of a quarter, put where `was` stood
+pub record Delivers (quarter : ℕ) (holidays : List ℕ) (was day number : ℕ) : Type 0 where
+  pub answers : number ≡ numberOf (deliveryDay quarter holidays)
+  pub leaves : day ≡ after (deliveryDay quarter holidays) (λ d. d) was

@@ -1,4 +1,4 @@
--- The refusal numbers of 01, 'Refused sheets', by name; src/refusal.rt has the same names for the code.
+-- The refusal numbers of 01, 'Refused sheets', and 02 by name; src/refusal.rt has the same names for the code.
 use Prim.Native.Nat.{ℕ}
 use mathlib.Core.List.{List, [], _∷_}
 
@@ -70,12 +70,16 @@ archiveFull = 16
 abbrev pub notNamedOnce : ℕ
 notNamedOnce = 17
 
+-- a dated measure's first or last quarter past 3,506,400; delivery day: quarter 0 or past 3,506,400 (02, 1)
+abbrev pub notInCalendar : ℕ
+notInCalendar = 18
+
 -- ---- the numbers that each call can return beside 0
 
 abbrev pub settleRefusals : List ℕ
 settleRefusals =
     notArchive ∷ badLink ∷ wrongKind ∷ noPlant ∷ noMeasure ∷ badPlant ∷ badMeasure ∷ badCount ∷ outOfRange ∷ badCurve
-    ∷ tooFewUsable ∷ divisorZero ∷ noRoom ∷ []
+    ∷ tooFewUsable ∷ divisorZero ∷ notInCalendar ∷ noRoom ∷ []
 
 abbrev pub freshRefusals : List ℕ
 freshRefusals = notArchive ∷ []
@@ -85,3 +89,6 @@ appendRefusals = notArchive ∷ badRecord ∷ badOwner ∷ badLink ∷ wrongKind
 
 abbrev pub auditRefusals : List ℕ
 auditRefusals = notArchive ∷ badLink ∷ wrongKind ∷ notNamedOnce ∷ []
+
+abbrev pub deliveryDayRefusals : List ℕ
+deliveryDayRefusals = notInCalendar ∷ []

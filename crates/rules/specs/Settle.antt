@@ -1,20 +1,21 @@
 -- Settle (01, 'Calls on the archive'), with its refusals in the order of 01, 'Refused sheets':
 -- 1; plants to p (2, 3, 4); measures to k (2, 3, 5); 6; 7; curve (2, 3, then 9, 10); before-quarters (2, 3, then 8, 9, 11, 12);
--- quarters (2, 3, then 8, 9); 13.
+-- quarters (2, 3, then 8, 9); 18; 13.
 use Prim.Native.Nat.{ℕ, _+_, _-_, _*_}
-use mathlib.Core.Bool.{Bool, true, cond, _&&_}
+use mathlib.Core.Bool.{Bool, true, cond, _&&_, _||_}
 use mathlib.Core.List.{List, [], _∷_, _++_, map}
 use lib.Dec.{eqb, leb, ltb}
 use lib.IntN.{ℤ, pos, _*ℤ_}
 use lib.Signed.{leZ}
 use lib.ListN.{length, drop}
 use Rattle.rules.specs.Outcome.{Outcome, refused, given, _>>=_, _>>_, require, after}
-use Rattle.rules.specs.Refusals.{noPlant, noMeasure, badPlant, badMeasure, badCount, outOfRange, badCurve, tooFewUsable, divisorZero, noRoom}
+use Rattle.rules.specs.Refusals.{noPlant, noMeasure, badPlant, badMeasure, badCount, outOfRange, badCurve, tooFewUsable, divisorZero, notInCalendar, noRoom}
 use Rattle.rules.specs.Numbers.{all, keep, sum, sumℤ, orZero, mapFrom}
 use Rattle.rules.specs.Archive.{recordAt, usedOf, Entry, atPlace, chain}
 use Rattle.rules.specs.Archive.{plantKind, pointKind, measureKind, beforeKind, quarterKind, firstPlant, firstPoint, firstMeasure, firstBefore, firstQuarter}
+use Rattle.rules.specs.Calendar.{lastQuarter}
 use Rattle.rules.specs.Terms.{Technology, wind, solar, other, Variant, spitz, pauschal, Execution, requested, tolerated, fixed}
-use Rattle.rules.specs.Terms.{Terms, termsOf, plantAllowed, measureAllowed}
+use Rattle.rules.specs.Terms.{Terms, termsOf, plantAllowed, measureAllowed, numberAt}
 use Rattle.rules.specs.Terms.{isPower, isSpeed, isIrradiance, isMarked, markAllowed, Point, Before, Quarter, pointOf, pointAllowed, beforeOf, quarterOf}
 use Rattle.rules.specs.Reference.{curvePower, Reference, onCurve, lastMeasured, onIrradiance, byFactor, asPlanned, denominator, exactOf}
 use Rattle.rules.specs.Booking.{amountsOf}
@@ -145,7 +146,7 @@ basisBy other pauschal archive place = pauschalBasis archive place
 abbrev pub basisOf : List ℕ → Place → Outcome Basis
 basisOf archive place = basisBy (place .terms .technology) (place .terms .variant) archive place
 
--- ---- quarters: 2, 3, then 8, 9
+-- ---- quarters: 2, 3, then 8, 9, 18
 
 abbrev pub quarterChain : List ℕ → Place → Outcome (List Entry)
 quarterChain archive place = chain archive (place .used) quarterKind (place .measure .number) (firstQuarter (place .measure .bytes))
@@ -170,11 +171,16 @@ limitReadable fixed measured limit = isPower measured
 abbrev pub readable : Terms → Reference → Quarter → Bool
 readable terms reference q = limitReadable (terms .execution) (q .measured) (q .limit) && referenceReadable reference q
 
+-- the first and the last of so many quarters aren't past the calendar's end; a measure without a date has none to test
+unfoldable pub datesAllowed : Terms → ℕ → Bool
+datesAllowed terms count = eqb (terms .first) 0 || (leb (numberAt terms 0) lastQuarter && leb (numberAt terms (count - 1)) lastQuarter)
+
 unfoldable pub quartersOf : List ℕ → Place → Basis → Outcome (List Quarter)
 quartersOf archive place basis = do
   entries ← quarterChain archive place
   require (leb 1 (length entries) && leb (length entries) 2976) badCount
   require (all (readable (place .terms) (basis .reference)) (quartersRead place entries)) outOfRange
+  require (datesAllowed (place .terms) (length entries)) notInCalendar
   given (quartersRead place entries)
 
 -- ---- exact magnitudes and amounts

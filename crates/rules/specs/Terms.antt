@@ -1,11 +1,12 @@
 -- The terms of Annex 1 (001, chapter 3) as 01, 'The archive', files them: plants, curve points, measures, before-quarters, quarters.
-use Prim.Native.Nat.{ℕ}
+use Prim.Native.Nat.{ℕ, _+_}
 use mathlib.Core.Bool.{Bool, cond, _&&_, _||_}
 use mathlib.Core.List.{List}
 use lib.Dec.{eqb, leb}
 use lib.IntN.{ℤ, pos, negℤ}
 use Rattle.rules.specs.Numbers.{within, orZero}
-use Rattle.rules.specs.Archive.{byteAt, fieldAt}
+use Rattle.rules.specs.Archive.{byteAt, linkAt, fieldAt}
+use Rattle.rules.specs.Calendar.{dateOf, dayOf, quarterOfDay}
 pub use Rattle.rules.specs.declared.Technology.{Technology}
 pub use Rattle.rules.specs.declared.Technology.the-variants.{Wind as wind, Solar as solar, Other as other}
 pub use Rattle.rules.specs.declared.Variant.{Variant}
@@ -63,6 +64,10 @@ directionOf measure = cond (eqb (byteAt measure 1) 1) positive negative
 abbrev pub executionOf : List ℕ → Execution
 executionOf measure = cond (eqb (byteAt measure 2) 1) requested (cond (eqb (byteAt measure 2) 2) tolerated fixed)
 
+-- bytes 16-19: the number of the first quarter; zero for a measure without a date (02, 1)
+abbrev pub firstNumber : List ℕ → ℕ
+firstNumber measure = linkAt measure 16
+
 -- what refusal 7 tests; positive redispatch exists for technology 3 only
 unfoldable pub measureAllowed : List ℕ → List ℕ → Bool
 measureAllowed plant measure =
@@ -79,6 +84,8 @@ pub record Terms : Type 0 where
   pub nominalPower : ℕ
   pub direction : Direction
   pub execution : Execution
+  -- number of the first quarter, or 0
+  pub first : ℕ
 
 abbrev pub termsOf : List ℕ → List ℕ → Terms
 termsOf plant measure = record {
@@ -87,6 +94,7 @@ termsOf plant measure = record {
   nominalPower = nominalPower plant;
   direction = directionOf measure;
   execution = executionOf measure;
+  first = firstNumber measure;
 }
 
 -- ---- curve point
@@ -121,13 +129,16 @@ beforeOf r = record { measured = fieldAt r 8; weather = fieldAt r 16 }
 
 -- ---- quarter
 
--- month 1-12 and quarter of the day 0-95, in UTC+1, of a measure's quarter: over the terms, the quarter's index along the chain, counted
--- from 0, and its bytes; bytes 1 and 2
-abbrev pub monthOf : Terms → ℕ → List ℕ → ℕ
-monthOf terms index r = byteAt r 1
+-- the number of a dated measure's quarter, its index along the chain counted from 0: the next quarters count on by 1 (02, 1)
+abbrev pub numberAt : Terms → ℕ → ℕ
+numberAt terms index = terms .first + index
 
-abbrev pub quarterOfDayOf : Terms → ℕ → List ℕ → ℕ
-quarterOfDayOf terms index r = byteAt r 2
+-- month 1-12 and quarter of the day 0-95, in UTC+1, of a measure's quarter: zero in the measure keeps the quarter's own bytes, 1 and 2
+unfoldable pub monthOf : Terms → ℕ → List ℕ → ℕ
+monthOf terms index r = cond (eqb (terms .first) 0) (byteAt r 1) (dateOf (dayOf (numberAt terms index)) .month)
+
+unfoldable pub quarterOfDayOf : Terms → ℕ → List ℕ → ℕ
+quarterOfDayOf terms index r = cond (eqb (terms .first) 0) (byteAt r 2) (quarterOfDay (numberAt terms index))
 
 -- a quarter-hour of the measure: 8-11 measured power, 12-15 sent limit, 16-19 weather, 20-23 planned power
 pub record Quarter : Type 0 where

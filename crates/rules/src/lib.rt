@@ -37,3 +37,10 @@ pub struct FactorRow {
     pub until: u64,
     pub factor: u64,
 }
+
+// A day of the Gregorian calendar; months and days are counted from 1.
+pub struct Date {
+    pub year: u64,
+    pub month: u64,
+    pub day: u64,
+}

@@ -1,4 +1,4 @@
-// The refusal numbers of document 01, by the names of specs/Refusals.antt; 0 is no refusal.
+// The refusal numbers of documents 01 and 02, by the names of specs/Refusals.antt; 0 is no refusal.
 
 pub const NOT_ARCHIVE: u64 = 1;
 
@@ -33,3 +33,5 @@ pub const BAD_OWNER: u64 = 15;
 pub const ARCHIVE_FULL: u64 = 16;
 
 pub const NOT_NAMED_ONCE: u64 = 17;
+
+pub const NOT_IN_CALENDAR: u64 = 18;

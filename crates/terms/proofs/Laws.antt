@@ -12,7 +12,7 @@ use Rattle.rules.specs.declared.Technology.{Technology}
 use Rattle.rules.specs.declared.Variant.{Variant}
 use Rattle.rules.specs.declared.Direction.{Direction}
 use Rattle.rules.specs.declared.Execution.{Execution}
-use Rattle.rules.specs.Terms.{technologyOf, variantOf, directionOf, executionOf, plantAllowed, measureAllowed}
+use Rattle.rules.specs.Terms.{technologyOf, variantOf, directionOf, executionOf, firstNumber, plantAllowed, measureAllowed}
 use Rattle.rules.specs.Settle.{admitted}
 use Rattle.rules.proofs.Bounds.{nominal-within}
 use Rattle.terms.specs.declared.Admitted.the-variants.{With, Refused}
@@ -35,8 +35,8 @@ module _ (plant measure : List ℕ) where
     unfolding admitted _>>_ require
     admit-measure e = rw (allowed, e)
 
-    pub admit-both : measureAllowed plant measure ≡ true → {t : Technology} {v : Variant} {pn : ℤ} {d : Direction} {x : Execution}
-        → t ≡ technologyOf plant → v ≡ variantOf plant → pn ≡ fieldAt plant 16 → d ≡ directionOf measure → x ≡ executionOf measure
-        → With (record { technology = t; variant = v; nominal = record { 0 = pn }; direction = d; execution = x }) ≡ admittedAnswer (admitted plant measure)
+    pub admit-both : measureAllowed plant measure ≡ true → {t : Technology} {v : Variant} {pn : ℤ} {d : Direction} {x : Execution} {f : ℕ}
+        → t ≡ technologyOf plant → v ≡ variantOf plant → pn ≡ fieldAt plant 16 → d ≡ directionOf measure → x ≡ executionOf measure → f ≡ firstNumber measure
+        → With (record { technology = t; variant = v; nominal = record { 0 = pn }; direction = d; execution = x; first = record { 0 = f } }) ≡ admittedAnswer (admitted plant measure)
     unfolding admitted _>>_ require
-    admit-both e et ev ep ed ex = rw (allowed, e, et, ev, ed, ex, ep) (rw (← nominal-within plant allowed .0))
+    admit-both e et ev ep ed ex ef = rw (allowed, e, et, ev, ed, ex, ef, ep) (rw (← nominal-within plant allowed .0))

@@ -15,6 +15,7 @@ meaning t = record {
   nominalPower = orZero (t .nominal .0);
   direction = t .direction;
   execution = t .execution;
+  first = t .first .0;
 }
 
 -- the same terms in the code, Pn in W
@@ -25,6 +26,7 @@ held t = record {
   nominal = record { 0 = pos (t .nominalPower) };
   direction = t .direction;
   execution = t .execution;
+  first = record { 0 = t .first };
 }
 
 -- the terms, or 6 or 7

@@ -1,4 +1,4 @@
-// The terms of a measure: what its plant and it say, from their own 32 bytes each, read once (document 01, 'The archive').
+// The terms of a measure: what its plant and it say, from their own 32 bytes each, read once (documents 01, 'The archive', and 02, 1).
 ghost use mathlib.Core.Path.{_≡_};
 ghost use lib.ListN.{length};
 ghost use Rattle.rules.specs.Terms.{technologyOf, variantOf, plantAllowed, directionOf, executionOf, measureAllowed};
@@ -9,6 +9,7 @@ use rules::Execution;
 use rules::Technology;
 use rules::Variant;
 use rules::refusal;
+use units::QuarterNumber;
 use units::Watt;
 
 // Handed on as one value; nothing of plant and measure is read again.
@@ -18,6 +19,8 @@ pub struct Terms {
     pub variant: Variant,
     pub direction: Direction,
     pub execution: Execution,
+    // number of the first quarter, or 0 for a measure without a date
+    pub first: QuarterNumber,
 }
 
 // ---- plant
@@ -140,11 +143,13 @@ pub fn admit(plant: &[u8], measure: &[u8]) -> Admitted
     let nominal = record::watt_at(plant, 16);
     let direction = direction_of(measure);
     let execution = execution_of(measure);
+    let first = QuarterNumber(record::link_at(measure, 16));
     Admitted::With(Terms {
         nominal,
         technology,
         variant,
         direction,
         execution,
+        first,
     })
 }

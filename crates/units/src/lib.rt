@@ -154,3 +154,11 @@ pub fn booked(direction: Direction, amount: u64) -> WattHour
         Direction::Negative => WattHour(amount as i64),
     }
 }
+
+// ---- time
+
+// Number of a day: 1 is 1 January 2000 (document 02, 1).
+pub struct DayNumber(pub u64);
+
+// Number of a quarter-hour: 1 is 1 January 2000, 0:00, in UTC+1.
+pub struct QuarterNumber(pub u64);

@@ -8,7 +8,9 @@
 //! each with its length (4) before it. Calls and their lines, a hash being FNV-1a of the later bytes in hex:
 //! 1 settle (a = p, b = k): number, hash of the list, hash of the result part; 2 show (a = number): place;
 //! 3 fresh: number, hash of the archive; 4 append (a = owner): number, hash of the archive; 5 audit: number;
-//! 6 the program, its input as archive: hash and length of what it writes. Each line starts with the call.
+//! 6 the program, its input as archive: hash and length of what it writes;
+//! 7 delivery day (a = quarter; the holidays, 4 bytes each, as list; the lent day, 8 bytes, as result part): number,
+//! the day afterwards. Each line starts with the call.
 
 #[path = "shared/host.rs"]
 mod host;
@@ -34,15 +36,18 @@ const FRESH: u8 = 3;
 const APPEND: u8 = 4;
 const AUDIT: u8 = 5;
 const PROGRAM: u8 = 6;
+const DELIVERY_DAY: u8 = 7;
 
-/// Each call's numbers; show has 0 for a record and 1 for the empty part, the program 0 for an M line.
-const NUMBERS: [(u8, &str, &[u32]); 6] = [
-    (SETTLE, "settle", &[0, 1, 2, 3, 4, 5, 6, 7, 8, 9, 10, 11, 12, 13]),
+/// Each call's numbers; show has 0 for a record and 1 for the empty part, delivery day also 1 for day 0, the program 0
+/// for an M line.
+const NUMBERS: [(u8, &str, &[u32]); 7] = [
+    (SETTLE, "settle", &[0, 1, 2, 3, 4, 5, 6, 7, 8, 9, 10, 11, 12, 13, 18]),
     (SHOW, "show (0 a record, 1 the empty part)", &[0, 1]),
     (FRESH, "fresh", &[0, 1]),
     (APPEND, "append", &[0, 1, 2, 3, 14, 15, 16]),
     (AUDIT, "audit", &[0, 1, 2, 3, 17]),
-    (PROGRAM, "program (by line, 0 for M)", &[0, 1, 2, 3, 6, 7, 8, 9, 10, 11, 12]),
+    (PROGRAM, "program (by line, 0 for M)", &[0, 1, 2, 3, 6, 7, 8, 9, 10, 11, 12, 18]),
+    (DELIVERY_DAY, "delivery day (1 for day 0)", &[0, 1, 18]),
 ];
 
 #[derive(Clone, Debug, Default)]
@@ -57,6 +62,7 @@ struct Case {
 }
 
 impl Case {
+    /// The lent day is the quarter with every bit turned.
     fn of(call: Call) -> Case {
         let none = Case::default();
         match call {
@@ -67,6 +73,10 @@ impl Case {
             Call::Fresh { archive } => Case { call: FRESH, archive, ..none },
             Call::Append { archive, owner, record } => Case { call: APPEND, a: owner, archive, record, ..none },
             Call::Audit { archive } => Case { call: AUDIT, archive, ..none },
+            Call::DeliveryDay { quarter, holidays } => {
+                let list = holidays.iter().flat_map(|day| day.to_le_bytes()).collect();
+                Case { call: DELIVERY_DAY, a: quarter, list, result: (!quarter).to_le_bytes().to_vec(), ..none }
+            }
         }
     }
 
@@ -108,6 +118,14 @@ impl Case {
             AUDIT => {
                 let number = host::audit(archive);
                 (format!("{call} {number}"), vec![number])
+            }
+            DELIVERY_DAY => {
+                let day_of = |bytes: &[u8]| u32::from_le_bytes(bytes.try_into().expect("4 bytes"));
+                let holidays: Vec<u32> = list.chunks(4).map(day_of).collect();
+                let mut day = u64::from_le_bytes(result[..].try_into().expect("8 bytes"));
+                let number = host::delivery_day(*a, &holidays, &mut day);
+                let reached = if number == 0 && day == 0 { 1 } else { number };
+                (format!("{call} {number} {day}"), vec![reached])
             }
             _ => {
                 let input = folder.join("input");
@@ -166,6 +184,7 @@ struct Made {
     again: u64,
     long: u64,
     inputs: u64,
+    without: u64,
 }
 
 /// Gives the cases in order, each with the generator's index, until there are enough different archives.
@@ -174,7 +193,10 @@ fn each(seed: u64, archives: usize, mut take: impl FnMut(u64, Case) -> io::Resul
     let mut index = 0;
     while made.archives.len() < archives {
         let case = Case::of(generate::call(seed, index).call);
-        let others = if !made.archives.insert(hash(&case.archive)) {
+        let others = if case.call == DELIVERY_DAY {
+            made.without += 1;
+            vec![]
+        } else if !made.archives.insert(hash(&case.archive)) {
             made.again += 1;
             vec![]
         } else if case.archive.len() > FURTHER {
@@ -200,7 +222,7 @@ fn ask(seed: u64, archives: usize, folder: &Path, program: &Path) -> io::Result<
     fs::create_dir_all(folder)?;
     let mut cases = BufWriter::new(File::create(folder.join("cases"))?);
     let mut lines = BufWriter::new(File::create(folder.join("lines"))?);
-    let mut calls = [0u64; 7];
+    let mut calls = [0u64; 8];
     let mut numbers: BTreeMap<(u8, u32), u64> = BTreeMap::new();
     let mut length = 0;
     let made = each(seed, archives, |_, mut case| {
@@ -222,7 +244,7 @@ fn ask(seed: u64, archives: usize, folder: &Path, program: &Path) -> io::Result<
     println!("Seed {seed}: {} different archives, {} inputs of the program.", made.archives.len(), made.inputs);
     println!("{all} cases, {length} bytes; no archive left out.");
     println!("{} archives longer than {FURTHER} bytes have one call only,", made.long);
-    println!("and so have {} that had been made before.", made.again);
+    println!("and so have {} that had been made before; {} calls need no archive.", made.again, made.without);
     let mut complete = true;
     for (call, name, wanted) in NUMBERS {
         print!("{name}: {} cases;", calls[usize::from(call)]);

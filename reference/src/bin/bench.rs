@@ -83,7 +83,10 @@ fn row(name: &str, times: &[f64], per: f64) {
 fn header(title: &str, unit: &str, versions: &[Version]) {
     let times: String = versions.iter().map(|version| format!(" {}, {unit} |", version.name)).collect();
     let ratios: String = versions.iter().map(|version| format!(" {} / fast |", version.name)).collect();
-    println!("\n### {title}\n\n| Case |{times} fast, {unit} |{ratios}\n|---|{}", "---:|".repeat(2 * versions.len() + 1));
+    println!(
+        "\n### {title}\n\n| Case |{times} fast, {unit} |{ratios}\n|---|{}",
+        "---:|".repeat(2 * versions.len() + 1)
+    );
 }
 
 const PAIRINGS: [(u8, u8, &str); 6] = [
@@ -114,8 +117,14 @@ fn sheet(technology: u8, variant: u8, points: i32, before: usize, quarters: usiz
             planned: rng.range(0, 2_000_000) as i32,
         })
         .collect();
-    let measure = Measure { direction: 2, execution: 1, before, quarters };
+    let measure = Measure { direction: 2, execution: 1, first: 0, before, quarters };
     Plant { technology, variant, nominal: 2_000_000, curve, measures: vec![measure] }
+}
+
+/// The same from 1 June 2026 on: June and July have June's factors, so that a version without dates gives the same.
+fn dated(mut plant: Plant) -> Plant {
+    plant.measures[0].first = 926_209;
+    plant
 }
 
 /// Times settle of the only measure; all sides must give the same.
@@ -153,6 +162,25 @@ fn audit(repetitions: usize, versions: &[Version], archive: &[u8]) -> Vec<f64> {
     }
     sides.push(Box::new(move |_| {
         black_box(fast::audit(black_box(archive)));
+    }));
+    medians(repetitions, versions[0].places.len(), &mut sides)
+}
+
+/// Times the delivery day with so many holidays, the next month's own days first.
+fn delivery_day(repetitions: usize, versions: &[Version], holidays: &[u32]) -> Vec<f64> {
+    let quarter = 937_921;
+    let right = fast::delivery_day(quarter, holidays);
+    let mut sides: Vec<Side> = Vec::new();
+    for version in versions {
+        let mut day = 0;
+        assert!(version.places.iter().all(|place| place.delivery_day(quarter, holidays, &mut day) == 0));
+        assert_eq!(right, Ok(day), "library and fast differ");
+        sides.push(Box::new(move |at| {
+            black_box(version.places[at].delivery_day(black_box(quarter), black_box(holidays), black_box(&mut day)));
+        }));
+    }
+    sides.push(Box::new(move |_| {
+        black_box(fast::delivery_day(black_box(quarter), black_box(holidays))).ok();
     }));
     medians(repetitions, versions[0].places.len(), &mut sides)
 }
@@ -266,13 +294,21 @@ fn main() {
         if (technology, variant) == (1, 1) {
             let mixed = file(&[plant], &Layout { order: Order::Shuffled, gaps: 50, ..Layout::PLAIN }, rng).bytes;
             row("wind Spitz, gaps in the chain", &settle(repetitions, &versions, &mixed, 2_976), 2_976.0);
+        } else if (technology, variant) == (2, 2) {
+            let archive = file(&[dated(plant)], &Layout::PLAIN, rng).bytes;
+            row("solar Pauschal, dated", &settle(repetitions, &versions, &archive, 2_976), 2_976.0);
         }
     }
 
     header("Settle, short (4 curve points, 4 before-quarters, 4 quarters)", "ns per call", &versions);
     for (technology, variant, name) in PAIRINGS {
-        let archive = file(&[sheet(technology, variant, 4, 4, 4, rng)], &Layout::PLAIN, rng).bytes;
+        let plant = sheet(technology, variant, 4, 4, 4, rng);
+        let archive = file(&[plant.clone()], &Layout::PLAIN, rng).bytes;
         row(name, &settle(repetitions, &versions, &archive, 4), 1.0);
+        if (technology, variant) == (2, 2) {
+            let archive = file(&[dated(plant)], &Layout::PLAIN, rng).bytes;
+            row("solar Pauschal, dated", &settle(repetitions, &versions, &archive, 4), 1.0);
+        }
     }
 
     header("Audit of a sound archive", "ns per record", &versions);
@@ -286,6 +322,14 @@ fn main() {
     header("Append at the end of a chain of quarters (and taking the record off again)", "ns per call", &versions);
     for length in [10, 100, 1_000, 10_000, 60_000] {
         row(&format!("{length} quarters"), &append(repetitions, &versions, length, rng), 1.0);
+    }
+
+    if versions.iter().all(Version::delivers) {
+        header("Delivery day", "ns per call", &versions);
+        for length in [0, 12, 1_000] {
+            let holidays: Vec<u32> = (9_802..).step_by(2).take(length).collect();
+            row(&format!("{length} holidays"), &delivery_day(repetitions, &versions, &holidays), 1.0);
+        }
     }
 
     header("The program, as a process on 65,536 bytes, its output to nowhere", "ms per run", &versions);

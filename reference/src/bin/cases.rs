@@ -7,10 +7,12 @@
 //! places. Archive and list are otherwise as the calls before left them, so a long archive is written once.
 //!
 //! Its line has the refusal number, count, total, links and a checksum: settle's of the later list, append's and
-//! fresh's of the later archive, show's of its part, whose length is the count.
+//! fresh's of the later archive, show's of its part, whose length is the count. Delivery day has the quarter as its
+//! first number, the holidays in place of the record, 4 bytes each, and the day as its count.
 
-use reference::archive::{used, RECORD};
+use reference::archive::{used, DATE, RECORD};
 use reference::builder::*;
+use reference::calendar::{first_day, LAST};
 use reference::generate::{self, Call, NUMBERS, SETTLED};
 use reference::rng::Rng;
 use reference::settle::{terms, Answer, Pairing};
@@ -24,6 +26,7 @@ use std::{env, fs, io};
 // What crates/cases has room for.
 const ARCHIVE: usize = 131_072;
 const PLACES: usize = 4_096;
+const HOLIDAYS: usize = 64;
 
 const SEED: u64 = 5;
 /// Generated calls looked at.
@@ -55,6 +58,7 @@ enum Step<'a> {
     Audit,
     Show { number: u64 },
     Fresh,
+    DeliveryDay { quarter: u64, holidays: &'a [u32] },
 }
 
 use Step::*;
@@ -105,6 +109,15 @@ fn reaches(archive: &[u8], list: &[i64], step: Step) -> Vec<String> {
             number("fresh", right.0);
             told(Of::Fresh, |slip| fresh(slip) != right)
         }
+        DeliveryDay { quarter, holidays } => {
+            let delivery_day = |slip| {
+                let mut day = 0;
+                (slips::delivery_day(slip, quarter, holidays, &mut day), day)
+            };
+            let right = delivery_day(Slip::None);
+            number("delivery day", right.0);
+            told(Of::DeliveryDay, |slip| delivery_day(slip) != right)
+        }
     };
     reached.extend(told.iter().map(|slip| format!("{slip:?}")));
     reached
@@ -131,7 +144,8 @@ fn shows(archive: &[u8], number: u64) -> &'static str {
 /// Wrong readings that show only in the C entry, and those of the program.
 fn elsewhere(slip: Slip, of: Of) -> bool {
     use Slip::*;
-    of == Of::Program || matches!(slip, ResultFirst | ResultLonger | ZeroedResult | RaggedPlace | ListWritten)
+    of == Of::Program
+        || matches!(slip, ResultFirst | ResultLonger | ZeroedResult | RaggedPlace | ListWritten | DueWritten)
 }
 
 /// Everything that has to be reached, and how often a generated call is taken for it.
@@ -167,12 +181,17 @@ impl Cases {
         for what in reaches(&self.archive[..size], &self.list, step) {
             *self.reached.entry(what).or_default() += 1;
         }
-        let (name, first, second, record, places): (u32, u64, u64, &[u8], usize) = match step {
-            Settle { p, k, places } => (1, p, k, &[], places),
-            Append { owner, record } => (2, owner, 0, record, 0),
-            Audit => (3, 0, 0, &[], 0),
-            Show { number } => (4, number, 0, &[], 0),
-            Fresh => (5, 0, 0, &[], 0),
+        let none = Vec::new();
+        let (name, first, second, record, places): (u32, u64, u64, Vec<u8>, usize) = match step {
+            Settle { p, k, places } => (1, p, k, none, places),
+            Append { owner, record } => (2, owner, 0, record.to_vec(), 0),
+            Audit => (3, 0, 0, none, 0),
+            Show { number } => (4, number, 0, none, 0),
+            Fresh => (5, 0, 0, none, 0),
+            DeliveryDay { quarter, holidays } => {
+                assert!(holidays.len() <= HOLIDAYS);
+                (6, quarter, 0, holidays.iter().flat_map(|day| day.to_le_bytes()).collect(), 0)
+            }
         };
         self.calls.extend(name.to_le_bytes());
         self.calls.extend(first.to_le_bytes());
@@ -181,13 +200,13 @@ impl Cases {
             self.calls.extend((length as u32).to_le_bytes());
         }
         self.calls.extend(given);
-        self.calls.extend(record);
+        self.calls.extend(&record);
 
         let (archive, list) = (&mut self.archive[..size], &mut self.list[..places]);
         let (answer, sum) = match step {
             Settle { p, k, .. } => (reference::settle(archive, p, k, list), sum_of_list(list)),
             Append { owner, .. } => {
-                let number = reference::append(archive, owner, record);
+                let number = reference::append(archive, owner, &record);
                 (Answer::refused(number), sum_of_bytes(archive))
             }
             Audit => (Answer::refused(reference::audit(archive)), 0),
@@ -199,6 +218,11 @@ impl Cases {
                 let number = reference::fresh(archive);
                 (Answer::refused(number), sum_of_bytes(archive))
             }
+            DeliveryDay { quarter, holidays } => {
+                let mut day = 0;
+                let number = reference::host_delivery_day(quarter, holidays, &mut day);
+                (Answer { count: day, ..Answer::refused(number) }, 0)
+            }
         };
         let Answer { number, count, total, links } = answer;
         writeln!(self.lines, "{number} {count} {total} {links} {sum}").expect("a string takes every line");
@@ -208,12 +232,13 @@ impl Cases {
     fn generated(&mut self, wanted: &[(String, u64)], most: usize, mut all: usize) {
         for index in 0..LOOKED_AT {
             let call = generate::call(SEED, index).call;
-            let (archive, step) = match &call {
+            let (archive, step): (&[u8], Step) = match &call {
                 Call::Settle { archive, p, k, list, .. } => (archive, Settle { p: *p, k: *k, places: list.len() / 8 }),
                 Call::Append { archive, owner, record } => (archive, Append { owner: *owner, record }),
                 Call::Audit { archive } => (archive, Audit),
                 Call::Show { archive, number } => (archive, Show { number: *number }),
                 Call::Fresh { archive } => (archive, Fresh),
+                Call::DeliveryDay { quarter, holidays } => (&[], DeliveryDay { quarter: *quarter, holidays }),
             };
             if archive.len() > most {
                 continue;
@@ -276,6 +301,15 @@ impl Cases {
                 self.run(&start, size, settle(2_976));
             }
         }
+        // Solar Pauschal up to the calendar's end, a quarter too far, over edges of seasons and years, undated again.
+        let before = |year, month| first_day(year, month).midnight().0 - 1_440;
+        for first in [LAST.0 - 2_975, LAST.0 - 2_974, before(2026, 11), before(2028, 3), before(2027, 1), 0] {
+            let mut start = self.archive[..at + RECORD].to_vec();
+            (start[RECORD + 1], start[RECORD + 2]) = numbers(Pairing::SolarPauschal);
+            start[at + 1] = 2;
+            start[at + DATE..at + DATE + 4].copy_from_slice(&(first as u32).to_le_bytes());
+            self.run(&start, size, settle(2_976));
+        }
         self.run(&[], size, append);
         self.run(&[], size, settle(2_977));
         // The last quarter falls behind U: 2 comes before 8.
@@ -323,6 +357,7 @@ fn sheet(pairing: Pairing, direction: u8, quarters: usize, rng: &mut Rng) -> Pla
     let measure = Measure {
         direction,
         execution: rng.range(1, 3) as u8,
+        first: 0,
         before: (0..4).map(|_| before(rng)).collect(),
         quarters: (0..quarters).map(|at| quarter(at, rng)).collect(),
     };

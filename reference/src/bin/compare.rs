@@ -19,6 +19,8 @@ struct Lent {
 
 const AROUND: usize = 64;
 const STAY: u8 = 0xa5;
+/// What a lent day and its neighbours hold before the call.
+const KEPT: u64 = u64::MAX / 3;
 
 impl Lent {
     fn new(bytes: &[u8], index: u64) -> Lent {
@@ -118,6 +120,24 @@ fn compare(call: &Call, index: u64) -> Result<(), String> {
             }
             lent.check("archive", archive)
         }
+        Call::DeliveryDay { quarter, holidays } => {
+            let mut after = [KEPT; 3];
+            let expected = reference::host_delivery_day(*quarter, holidays, &mut after[1]);
+            // Numbers around the list and the day must stay, and the list too.
+            let start = AROUND + (index % 2) as usize;
+            let mut lent = vec![u32::MAX / 3; start + holidays.len() + AROUND];
+            lent[start..start + holidays.len()].copy_from_slice(holidays);
+            let (before, mut day) = (lent.clone(), [KEPT; 3]);
+            let part = &mut lent[start..start + holidays.len()];
+            number(expected, host::delivery_day(*quarter, part, &mut day[1]))?;
+            if lent != before {
+                return Err("the holidays or numbers around them changed".to_string());
+            }
+            if day != after {
+                return Err(format!("day between two others: reference {after:?}, library {day:?}"));
+            }
+            Ok(())
+        }
     }
 }
 
@@ -144,6 +164,7 @@ fn describe(call: &Call) -> String {
         Call::Show { archive, number } => {
             format!("show {number}\narchive ({} bytes):\n{}", archive.len(), hex(archive))
         }
+        Call::DeliveryDay { quarter, holidays } => format!("delivery day of quarter {quarter}\nholidays {holidays:?}"),
     }
 }
 
@@ -158,7 +179,7 @@ fn main() -> ExitCode {
             return ExitCode::from(2);
         }
     };
-    let mut calls = [("settle", 0u64), ("fresh", 0), ("append", 0), ("show", 0), ("audit", 0)];
+    let mut calls = [("settle", 0u64), ("fresh", 0), ("append", 0), ("show", 0), ("audit", 0), ("delivery day", 0)];
     for index in first..first + count {
         let call = generate::call(seed, index).call;
         if let Err(difference) = compare(&call, index) {
@@ -173,6 +194,7 @@ fn main() -> ExitCode {
             Call::Append { .. } => 2,
             Call::Show { .. } => 3,
             Call::Audit { .. } => 4,
+            Call::DeliveryDay { .. } => 5,
         };
         calls[kind].1 += 1;
     }

@@ -5,13 +5,16 @@
 //! the linked library is asked as well. Exit status 1 on a difference, or if a wrong reading shows nowhere.
 //!
 //! FORMAT section 15 has the layout: a table of archives with lengths and SHA-256 (the files are in examples/), dumps
-//! of some of them, and tables with the columns Archive, Change, Call and Result.
+//! of some of them, and tables with the columns Archive, Change, Call and Result. FORMAT section 16 has that of the
+//! delivery days, tables with the columns Quarter, Holidays and Result. The dates of RULES section 13, in tables with
+//! the columns of `DATES`, must be those of the plain calendar.
 
 #[cfg(feature = "compare")]
 #[path = "shared/host.rs"]
 mod host;
 
 use reference::archive::RECORD;
+use reference::calendar::QuarterHour;
 use reference::sha256::sha256;
 use reference::slips::{self, Slip, FURTHER, SLIPS};
 use std::collections::BTreeMap;
@@ -21,13 +24,17 @@ use std::process::{Command, ExitCode, Stdio};
 use std::{env, fs, thread};
 
 const PAGES: [&str; 2] = ["FORMAT.md", "RULES.md"];
-/// Columns of the table of archives, and of the tables of calls.
+/// Columns of the table of archives, of the tables of calls, of delivery days and of dates.
 const FILES: [&str; 5] = ["Archive", "Bytes", "SHA-256", "Output, bytes", "SHA-256 of the output"];
 const CALLS: [&str; 4] = ["Archive", "Change", "Call", "Result"];
+const DELIVERIES: [&str; 3] = ["Quarter", "Holidays", "Result"];
+const DATES: [&str; 6] = ["Quarter number", "Date", "Clock time", "Quarter of the day", "Day number", "Weekday"];
 /// Places of a list where the page names none.
 const PLACES: usize = 3_000;
 /// What list and result part hold before a call.
 const UNTOUCHED: u8 = 0xee;
+/// What the lent day holds before a call.
+const UNTOUCHED_DAY: u64 = u64::MAX;
 
 #[derive(Clone, Debug)]
 enum Call {
@@ -36,22 +43,25 @@ enum Call {
     Audit,
     Show { number: u64 },
     Fresh,
+    DeliveryDay { quarter: u64, holidays: Vec<u32> },
     Program,
 }
 
-/// All that can be seen of a call: number, later bytes of the archive or the list, result part; or the lines.
+/// All that can be seen of a call: number, later bytes of the archive or the list, result part, day; or the lines.
 #[derive(Clone, Debug, PartialEq, Eq)]
 enum Outcome {
     Settled { number: u32, list: Vec<u8>, result: Vec<u8> },
     Changed { number: u32, archive: Vec<u8> },
     Number(u32),
     Shown(u64),
+    Delivered { number: u32, day: u64 },
     Lines(String),
 }
 
 struct Example {
     /// Page and line.
     at: String,
+    /// Empty for a call that needs none.
     archive: Vec<u8>,
     call: Call,
     result: String,
@@ -168,6 +178,16 @@ fn call(text: &str) -> Result<Call, Fault> {
     }
 }
 
+/// A list of days: `none`, or numbers and runs of them, as in `9,771 to 9,806, 9,810`.
+fn days(text: &str) -> Result<Vec<u32>, Fault> {
+    let mut list = Vec::new();
+    for part in text.split(", ").filter(|_| text != "none") {
+        let (first, last) = part.split_once(" to ").unwrap_or((part, part));
+        list.extend(number::<u32>(first)?..=number(last)?);
+    }
+    Ok(list)
+}
+
 /// What the page says, as an outcome.
 fn outcome(example: &Example) -> Result<Outcome, Fault> {
     let (archive, text) = (&example.archive, &example.result[..]);
@@ -238,6 +258,11 @@ fn outcome(example: &Example) -> Result<Outcome, Fault> {
                 Ok(Outcome::Shown(first))
             }
         },
+        Call::DeliveryDay { .. } => {
+            let refusal: u32 = number(head)?;
+            let day = if refusal == 0 { number(rest)? } else { UNTOUCHED_DAY };
+            Ok(Outcome::Delivered { number: refusal, day })
+        }
         Call::Program => Ok(Outcome::Lines(match text {
             "nothing" => String::new(),
             _ => text.split(" / ").map(|line| format!("{line}\n")).collect(),
@@ -252,6 +277,7 @@ trait Calls {
     fn audit(&self, archive: &[u8]) -> u32;
     fn show(&self, archive: &[u8], number: u64) -> u64;
     fn fresh(&self, archive: &mut [u8]) -> u32;
+    fn delivery_day(&self, quarter: u64, holidays: &[u32], day: &mut u64) -> u32;
     /// The program's lines, if this implementation has a program.
     fn program(&self, input: &[u8]) -> io::Result<Option<Vec<u8>>>;
 }
@@ -278,6 +304,9 @@ impl Calls for Plain {
     fn fresh(&self, archive: &mut [u8]) -> u32 {
         reference::fresh(archive)
     }
+    fn delivery_day(&self, quarter: u64, holidays: &[u32], day: &mut u64) -> u32 {
+        reference::host_delivery_day(quarter, holidays, day)
+    }
     fn program(&self, input: &[u8]) -> io::Result<Option<Vec<u8>>> {
         let mut lines = Vec::new();
         reference::program(input, &mut lines)?;
@@ -300,6 +329,9 @@ impl Calls for Slip {
     }
     fn fresh(&self, archive: &mut [u8]) -> u32 {
         slips::fresh(*self, archive)
+    }
+    fn delivery_day(&self, quarter: u64, holidays: &[u32], day: &mut u64) -> u32 {
+        slips::delivery_day(*self, quarter, holidays, day)
     }
     fn program(&self, input: &[u8]) -> io::Result<Option<Vec<u8>>> {
         Ok(Some(slips::program(*self, input)))
@@ -327,6 +359,9 @@ impl Calls for Proved {
     }
     fn fresh(&self, archive: &mut [u8]) -> u32 {
         host::fresh(archive)
+    }
+    fn delivery_day(&self, quarter: u64, holidays: &[u32], day: &mut u64) -> u32 {
+        host::delivery_day(quarter, holidays, day)
     }
     fn program(&self, input: &[u8]) -> io::Result<Option<Vec<u8>>> {
         self.lines(input)
@@ -371,6 +406,11 @@ fn run(calls: &dyn Calls, example: &Example) -> io::Result<Option<Outcome>> {
         }
         Call::Audit => Outcome::Number(calls.audit(archive)),
         Call::Show { number } => Outcome::Shown(calls.show(archive, *number)),
+        Call::DeliveryDay { quarter, holidays } => {
+            let mut day = UNTOUCHED_DAY;
+            let number = calls.delivery_day(*quarter, holidays, &mut day);
+            Outcome::Delivered { number, day }
+        }
         Call::Program => match calls.program(archive)? {
             Some(lines) => Outcome::Lines(String::from_utf8_lossy(&lines).into_owned()),
             None => return Ok(None),
@@ -392,6 +432,8 @@ fn in_words(outcome: &Outcome) -> String {
             number.to_string()
         }
         Outcome::Shown(place) => format!("place {place}"),
+        Outcome::Delivered { number, day: UNTOUCHED_DAY } => format!("{number}, the day left"),
+        Outcome::Delivered { number, day } => format!("{number}: {}", grouped(*day as i64)),
         Outcome::Lines(lines) => lines.trim_end().replace('\n', " / "),
     }
 }
@@ -423,6 +465,10 @@ struct Pages {
     printed: Vec<(String, String, String)>,
     /// Archive, change, call and result of each row.
     rows: Vec<(String, [String; 4])>,
+    /// Quarter, holidays and result of each delivery day.
+    deliveries: Vec<(String, [String; 3])>,
+    /// The cells of each date.
+    dates: Vec<(String, [String; 6])>,
 }
 
 /// The cells of a table's row, without the backticks around a whole cell.
@@ -483,7 +529,13 @@ impl Pages {
                 self.files.push((place.clone(), cells));
             }
             if let Some(cells) = picked(&columns, &row, CALLS) {
-                self.rows.push((place, cells));
+                self.rows.push((place.clone(), cells));
+            }
+            if let Some(cells) = picked(&columns, &row, DELIVERIES) {
+                self.deliveries.push((place.clone(), cells));
+            }
+            if let Some(cells) = picked(&columns, &row, DATES) {
+                self.dates.push((place, cells));
             }
         }
         Ok(())
@@ -535,8 +587,31 @@ impl Pages {
             let call = call(words).map_err(fault)?;
             examples.push(Example { at: at.clone(), archive, call, result: result.clone() });
         }
+        for (at, [quarter, holidays, result]) in &self.deliveries {
+            let fault = |fault: Fault| format!("{at}: {fault}");
+            let quarter = number(quarter).map_err(fault)?;
+            let call = Call::DeliveryDay { quarter, holidays: days(holidays).map_err(fault)? };
+            examples.push(Example { at: at.clone(), archive: Vec::new(), call, result: result.clone() });
+        }
         Ok((archives, examples))
     }
+}
+
+/// A row of dates as the plain calendar has it.
+fn dated(quarter: QuarterHour) -> [String; 6] {
+    const MONTHS: &str = "January February March April May June July August September October November December";
+    const WEEKDAYS: [&str; 7] = ["Monday", "Tuesday", "Wednesday", "Thursday", "Friday", "Saturday", "Sunday"];
+    let (day, time) = (quarter.day(), quarter.time());
+    let date = day.date();
+    let month = MONTHS.split(' ').nth(usize::from(date.month) - 1).expect("twelve months");
+    [
+        grouped(quarter.0 as i64),
+        format!("{} {month} {}", date.day, date.year),
+        format!("{}:{:02}", time / 4, time % 4 * 15),
+        time.to_string(),
+        grouped(day.0 as i64),
+        WEEKDAYS[usize::from(day.weekday()) - 1].to_string(),
+    ]
 }
 
 /// The cells of a row in the named columns, if the table has all of them.
@@ -580,6 +655,12 @@ fn pages(folder: &Path, program: Option<String>) -> Result<bool, Fault> {
         println!("DIFFERENCE at {}: the page has {says}, {who} has {}", example.at, in_words(found));
         good = false;
     };
+    for (at, cells) in &pages.dates {
+        let found = dated(QuarterHour(number(&cells[0]).map_err(|fault| format!("{at}: {fault}"))?));
+        if *cells != found {
+            return Err(format!("{at}: the calendar has {}", found.join(" | ")));
+        }
+    }
     let mut right = Vec::new();
     for example in &examples {
         let expected = outcome(example).map_err(|fault| format!("{}: {fault}", example.at))?;
@@ -624,10 +705,11 @@ fn pages(folder: &Path, program: Option<String>) -> Result<bool, Fault> {
         }
     }
     println!(
-        "{} archives, {} dumps and {} examples on the pages, {asked} of them by the proved code too; {} wrong readings, \
-         each shown by at least {fewest}",
+        "{} archives, {} dumps, {} dates and {} examples on the pages, {asked} of them by the proved code too; {} wrong \
+         readings, each shown by at least {fewest}",
         archives.len(),
         pages.dumps.len(),
+        pages.dates.len(),
         examples.len(),
         all.len()
     );

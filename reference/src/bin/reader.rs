@@ -1,5 +1,6 @@
-//! Reader of redispatch archives: settle, show, fresh, append, audit and the program.
-//! Written from docs/FORMAT.md and docs/RULES.md alone ("F" and "R" below, with section numbers).
+//! Reader of redispatch archives: settle, show, fresh, append, audit, the program and delivery day.
+//! Written from docs/FORMAT.md and docs/RULES.md, version 1.2, alone ("F" and "R" below, with section numbers):
+//! F 1 to 16, and of R the rules, 1 to 6 and 13, and the worked numbers, 7, 8, 10 and 13.
 //!
 //! Build: rustc -O --edition 2021 reader.rs
 //! Standard input: cases, one after the other. Standard output: one line for each case.
@@ -43,6 +44,10 @@ const MOST_QUARTERS: usize = 2_976;
 const MOST_POWER: i32 = 1_000_000_000;
 const MOST_SPEED: i32 = 1_000;
 const MOST_IRRADIANCE: i32 = 2_000;
+
+// Quarter numbers of the calendar end here; a day has so many (R 13).
+const LAST_QUARTER: u64 = 3_506_400;
+const QUARTERS_OF_A_DAY: u64 = 96;
 
 // ---------------------------------------------------------------- bytes and links (F 1, 2, 4)
 
@@ -133,6 +138,91 @@ impl<'a> Archive<'a> {
     }
 }
 
+// ---------------------------------------------------------------- dates and delivery day (R 13, F 16)
+
+/// A day of the calendar.
+#[derive(Debug, PartialEq)]
+struct Date {
+    year: u64,
+    month: u8,
+    day: u64,
+}
+
+/// Day number of a quarter number; both count from 1.
+fn day_of(quarter: u64) -> u64 {
+    (quarter - 1) / QUARTERS_OF_A_DAY + 1
+}
+
+fn quarter_of_day(quarter: u64) -> u8 {
+    ((quarter - 1) % QUARTERS_OF_A_DAY) as u8
+}
+
+fn is_leap_year(year: u64) -> bool {
+    year % 4 == 0 && (year % 100 != 0 || year % 400 == 0)
+}
+
+fn days_of_year(year: u64) -> u64 {
+    if is_leap_year(year) {
+        366
+    } else {
+        365
+    }
+}
+
+fn days_of_month(year: u64, month: u8) -> u64 {
+    match month {
+        2 if is_leap_year(year) => 29,
+        2 => 28,
+        4 | 6 | 9 | 11 => 30,
+        _ => 31,
+    }
+}
+
+/// The date of a day number.
+fn date(mut day: u64) -> Date {
+    let (mut year, mut month) = (2000, 1);
+    while day > days_of_year(year) {
+        day -= days_of_year(year);
+        year += 1;
+    }
+    while day > days_of_month(year, month) {
+        day -= days_of_month(year, month);
+        month += 1;
+    }
+    Date { year, month, day }
+}
+
+/// Monday to Friday: day 1 is a Saturday.
+fn is_weekday(day: u64) -> bool {
+    (day - 1) % 7 >= 2
+}
+
+/// The fourth working day of the month after the quarter's; 0 if that month has fewer.
+fn delivery_day(quarter: u64, holidays: &[u64]) -> Result<u64, Refusal> {
+    if quarter == 0 || quarter > LAST_QUARTER {
+        return Err(18);
+    }
+    let day = day_of(quarter);
+    let own = date(day);
+    let first = day - own.day + days_of_month(own.year, own.month) + 1;
+    let next = date(first);
+    let end = first + days_of_month(next.year, next.month);
+    let mut working_days = (first..end).filter(|day| is_weekday(*day) && !holidays.contains(day));
+    Ok(working_days.nth(3).unwrap_or(0))
+}
+
+/// Delivery day from C (F 7): the holidays as four bytes each, the lent day as eight.
+fn delivery_day_c(quarter: u64, list: &[u8], lent: &mut [u8; 8]) -> u32 {
+    let holidays: Vec<u64> = list.chunks_exact(4).map(|holiday| unsigned(holiday, 0) as u64).collect();
+    match delivery_day(quarter, &holidays) {
+        Ok(day) => {
+            *lent = day.to_le_bytes();
+            0
+        }
+        Err(number) => number,
+    }
+}
+
 // ---------------------------------------------------------------- settle (F 6, R 1 to 6)
 
 struct Settled {
@@ -183,7 +273,7 @@ fn curve_power(curve: &[(i128, i128)], v: i128) -> i128 {
     (p * (w - v) + q * (v - u)) / (w - u)
 }
 
-/// The curve of a wind Spitz plant: step 6.
+/// The curve of a wind Spitz plant: 2, 3, 9, 10.
 fn read_curve(archive: &Archive, plant: usize) -> Result<Vec<(i128, i128)>, Refusal> {
     let mut curve = Vec::new();
     for number in archive.chain(plant, FIRST, CURVE_POINT)? {
@@ -204,7 +294,7 @@ struct Before {
     b: i128,
 }
 
-/// Step 7, for the four pairings that use before-quarters.
+/// 2, 3, 8, 9, 11, 12 in the four pairings that use before-quarters.
 fn read_before(
     archive: &Archive,
     measure: usize,
@@ -271,14 +361,14 @@ fn solar_factor(month: u8, quarter_of_day: u8) -> i128 {
     }
 }
 
-/// Settle without the test of the list (step 9), which the callers make: nothing behind it can be refused.
+/// Settle without the test of the list (13), which the callers make: nothing behind it can be refused.
 fn settle(bytes: &[u8], p: u64, k: u64) -> Result<Settled, Refusal> {
-    // Steps 1 to 3: head, plant, measure.
+    // 1 to 5: head, plant, measure.
     let archive = Archive::open(bytes)?;
     let plant_number = archive.place(p, 4, HEAD, FIRST, PLANT)?;
     let measure_number = archive.place(k, 5, plant_number, SECOND, MEASURE)?;
 
-    // Step 4: the plant's fields.
+    // 6: the plant's fields.
     let plant = archive.record(plant_number);
     let (technology, variant) = (plant[1], plant[2]);
     let pairing = (technology, variant);
@@ -291,7 +381,7 @@ fn settle(bytes: &[u8], p: u64, k: u64) -> Result<Settled, Refusal> {
     }
     let pn = pn as i128;
 
-    // Step 5: the measure's fields.
+    // 7: the measure's fields.
     let measure = archive.record(measure_number);
     let (direction, execution) = (measure[1], measure[2]);
     if !(POSITIVE..=NEGATIVE).contains(&direction)
@@ -300,8 +390,10 @@ fn settle(bytes: &[u8], p: u64, k: u64) -> Result<Settled, Refusal> {
     {
         return Err(7);
     }
+    // Quarter number of the first quarter; 0 in an undated measure (F 3).
+    let first = unsigned(measure, 16) as u64;
 
-    // Steps 6 and 7: curve and before-quarters, where the pairing needs them.
+    // Curve and before-quarters, where the pairing needs them.
     let curve = match pairing {
         (WIND, SPITZ) => read_curve(&archive, plant_number)?,
         _ => Vec::new(),
@@ -311,7 +403,7 @@ fn settle(bytes: &[u8], p: u64, k: u64) -> Result<Settled, Refusal> {
         _ => read_before(&archive, measure_number, pairing, pn, &curve)?,
     };
 
-    // Step 8: quarters. For each the limitation value L and the numerator N of T = N / D.
+    // 2, 3, 8, 9: quarters. For each the limitation value L and the numerator N of T = N / D.
     let chain = archive.chain(measure_number, SECOND, QUARTER)?;
     if chain.is_empty() || chain.len() > MOST_QUARTERS {
         return Err(8);
@@ -332,6 +424,8 @@ fn settle(bytes: &[u8], p: u64, k: u64) -> Result<Settled, Refusal> {
         let n = match pairing {
             (WIND, SPITZ) => (before.a * curve_power(&curve, speed(quarter)?)).min(pn * before.b),
             (SOLAR, SPITZ) => before.a * irradiance(quarter)?,
+            // By date, below: bytes 1 and 2 are not read (F 3), and the date is not tested yet.
+            (SOLAR, PAUSCHAL) if first != 0 => 0,
             (SOLAR, PAUSCHAL) => {
                 let (month, quarter_of_day) = (quarter[1], quarter[2]);
                 if !(1..=12).contains(&month) || quarter_of_day > 95 {
@@ -345,7 +439,17 @@ fn settle(bytes: &[u8], p: u64, k: u64) -> Result<Settled, Refusal> {
         powers.push((l, n));
     }
 
-    // Step 10: booking with one remainder (R 5, 6).
+    // 18, in every pairing, by the last quarter's number.
+    if first != 0 && first + chain.len() as u64 - 1 > LAST_QUARTER {
+        return Err(18);
+    }
+    if first != 0 && pairing == (SOLAR, PAUSCHAL) {
+        for (number, (_, n)) in (first..).zip(&mut powers) {
+            *n = pn * solar_factor(date(day_of(number)).month, quarter_of_day(number));
+        }
+    }
+
+    // Booking with one remainder (R 5, 6).
     let e = 4 * d;
     let mut amounts = Vec::with_capacity(powers.len());
     let (mut remainder, mut total) = (0, 0);
@@ -603,6 +707,10 @@ fn read_part(input: &mut impl Read) -> io::Result<Vec<u8>> {
     Ok(part)
 }
 
+fn no_case(why: String) -> io::Error {
+    io::Error::new(io::ErrorKind::InvalidData, why)
+}
+
 fn run_cases(input: &mut impl Read, output: &mut impl Write) -> io::Result<()> {
     loop {
         let mut call = [0; 1];
@@ -635,9 +743,15 @@ fn run_cases(input: &mut impl Read, output: &mut impl Write) -> io::Result<()> {
                 program(&archive, &mut |bytes| printed.add(bytes));
                 writeln!(output, "6 {:016x} {}", printed.value, printed.length)?;
             }
-            other => {
-                return Err(io::Error::new(io::ErrorKind::InvalidData, format!("no call {other}")));
+            7 => {
+                let mut lent = match <[u8; 8]>::try_from(&result[..]) {
+                    Ok(lent) if list.len() % 4 == 0 => lent,
+                    _ => return Err(no_case("call 7 with parts of other lengths".into())),
+                };
+                let number = delivery_day_c(a, &list, &mut lent);
+                writeln!(output, "7 {number} {}", u64::from_le_bytes(lent))?;
             }
+            other => return Err(no_case(format!("no call {other}"))),
         }
     }
 }
@@ -1081,6 +1195,219 @@ mod self_test {
         tests.same("R 4 factors", wrong, 0);
     }
 
+    /// R 13: numbers to dates. Quarter number, date, quarter of the day, day number, weekday as (day - 1) mod 7.
+    fn dates(tests: &mut Tests) {
+        let rows = [
+            (1, (2000, 1, 1), 0, 1, 0),
+            (96, (2000, 1, 1), 95, 1, 0),
+            (97, (2000, 1, 2), 0, 2, 1),
+            (2_977, (2000, 2, 1), 0, 32, 3),
+            (5_689, (2000, 2, 29), 24, 60, 3),
+            (5_785, (2000, 3, 1), 24, 61, 4),
+            (35_136, (2000, 12, 31), 95, 366, 1),
+            (35_137, (2001, 1, 1), 0, 367, 2),
+            (929_124, (2026, 7, 1), 35, 9_679, 4),
+            (937_921, (2026, 10, 1), 0, 9_771, 5),
+            (940_876, (2026, 10, 31), 75, 9_801, 0),
+            (940_896, (2026, 10, 31), 95, 9_801, 0),
+            (940_897, (2026, 11, 1), 0, 9_802, 1),
+            (940_933, (2026, 11, 1), 36, 9_802, 1),
+            (946_752, (2026, 12, 31), 95, 9_862, 5),
+            (946_753, (2027, 1, 1), 0, 9_863, 6),
+            (952_345, (2027, 2, 28), 24, 9_921, 1),
+            (952_441, (2027, 3, 1), 24, 9_922, 2),
+            (981_792, (2027, 12, 31), 95, 10_227, 6),
+            (987_481, (2028, 2, 29), 24, 10_287, 3),
+            (987_577, (2028, 3, 1), 24, 10_288, 4),
+            (3_503_425, (2099, 12, 1), 0, 36_495, 3),
+            (3_506_400, (2099, 12, 31), 95, 36_525, 5),
+        ];
+        for (quarter, (year, month, day), of_day, day_number, weekday) in rows {
+            let found = (date(day_of(quarter)), quarter_of_day(quarter), day_of(quarter), is_weekday(day_of(quarter)));
+            let expected = (Date { year, month, day }, of_day, day_number, weekday > 1);
+            tests.same(&format!("R 13 quarter {quarter}"), found, expected);
+        }
+    }
+
+    /// The rows of F 16 and R 13. Holidays as ranges; without a day the call is 18, and the lent day stays.
+    fn delivery_days(tests: &mut Tests) {
+        type Row<'a> = (u64, &'a [(u32, u32)], Option<u64>);
+        let rows: &[Row] = &[
+            (937_921, &[], Some(9_806)),
+            (940_896, &[], Some(9_806)),
+            (940_897, &[], Some(9_835)),
+            (937_921, &[(9_806, 9_806)], Some(9_807)),
+            (937_921, &[(9_803, 9_803)], Some(9_807)),
+            (937_921, &[(9_803, 9_803), (9_806, 9_806)], Some(9_810)),
+            (937_921, &[(9_806, 9_806), (9_803, 9_803)], Some(9_810)),
+            (937_921, &[(9_806, 9_806), (9_806, 9_806)], Some(9_807)),
+            (937_921, &[(9_806, 9_807)], Some(9_810)),
+            (937_921, &[(9_807, 9_807)], Some(9_806)),
+            (937_921, &[(9_802, 9_802), (9_808, 9_808)], Some(9_806)),
+            (937_921, &[(9_773, 9_773), (9_834, 9_834)], Some(9_806)),
+            (937_921, &[(0, 0), (36_557, 36_557), (u32::MAX, u32::MAX)], Some(9_806)),
+            (937_921, &[(0, 0), (9_806, 9_806)], Some(9_807)),
+            (937_921, &[(75_342, 75_342)], Some(9_806)),
+            (937_921, &[(9_771, 9_806)], Some(9_812)),
+            (937_921, &[(9_804, 9_816), (9_818, 9_830)], Some(0)),
+            (937_921, &[(9_802, 9_802), (9_804, 9_816), (9_818, 9_830)], Some(0)),
+            (937_921, &[(9_804, 9_816), (9_818, 9_827)], Some(9_831)),
+            (937_921, &[(9_802, 9_831)], Some(0)),
+            (981_792, &[], Some(10_233)),
+            (3_506_400, &[], Some(36_531)),
+            (3_506_400, &[(36_526, 36_526)], Some(36_532)),
+            (3_506_400, &[(36_526, 36_551)], Some(0)),
+            (3_506_400, &[(36_526, 36_549)], Some(36_553)),
+            (1, &[], Some(35)),
+            (2_976, &[], Some(35)),
+            (2_977, &[], Some(66)),
+            (952_441, &[], Some(9_958)),
+            (987_481, &[], Some(10_293)),
+            (987_577, &[], Some(10_324)),
+            (0, &[], None),
+            (3_506_401, &[], None),
+            (4_295_905_217, &[], None),
+            (u64::MAX, &[(9_806, 9_806)], None),
+        ];
+        for &(quarter, holidays, day) in rows {
+            let list: Vec<u8> = holidays.iter().flat_map(|&(from, to)| from..=to).flat_map(u32::to_le_bytes).collect();
+            let mut lent = [0xee; 8];
+            let number = delivery_day_c(quarter, &list, &mut lent);
+            let expected = day.map_or((18, [0xee; 8]), |day| (0, day.to_le_bytes()));
+            tests.same(&format!("F 16 quarter {quarter}, holidays {holidays:?}"), (number, lent), expected);
+        }
+    }
+
+    /// The rows 'Dates' of F 15.
+    fn section_15_dates(tests: &mut Tests) {
+        let h = filed((SOLAR, PAUSCHAL, 1_000_000), (NEGATIVE, 2), &[solar_quarter(7, 35), solar_quarter(7, 36)]);
+        let bytes_1_2 = |one: (u8, u8), two: (u8, u8)| {
+            vec![Number(2, 16, 929_124), Byte(3, 1, one.0), Byte(3, 2, one.1), Byte(4, 1, two.0), Byte(4, 2, two.1)]
+        };
+        let rows = [
+            (vec![Number(2, 16, 929_124)], vec![61_400, 154_725]),
+            (bytes_1_2((13, 255), (0, 96)), vec![61_400, 154_725]),
+            (bytes_1_2((1, 0), (12, 0)), vec![61_400, 154_725]),
+            (vec![Number(2, 16, 929_120)], vec![61_400, 61_400]),
+            (vec![Number(2, 16, 1)], vec![0, 0]),
+            (vec![Number(2, 16, 36)], vec![0, 69_900]),
+            (vec![Number(2, 16, 5_688)], vec![0, 0]),
+            (vec![Number(2, 16, 5_784)], vec![0, 61_400]),
+            (vec![Number(2, 16, 952_344)], vec![0, 0]),
+            (vec![Number(2, 16, 952_440)], vec![0, 61_400]),
+            (vec![Number(2, 16, 3_506_399)], vec![0, 0]),
+        ];
+        for (row, (changes, expected)) in rows.iter().enumerate() {
+            let mut bytes = h.clone();
+            set(&mut bytes, changes);
+            tests.same(&format!("F 15 dates, h, row {row}"), amounts(&bytes), expected.clone());
+        }
+
+        let a = hex(CASE_A);
+        let wind_spitz = wind(2_000_000, &vec![before_quarter(900_000, 20); 4], &[quarter(350_000, 0, 30, 0)]);
+        let solar_spitz = filed((SOLAR, SPITZ, 1_000_000), (NEGATIVE, 2), &[before_quarter(9, 5), quarter(8, 0, 8, 0)]);
+        let other_spitz = filed((OTHER, SPITZ, 1_000_000), (NEGATIVE, 1), &[quarter(4, 6, 0, 10)]);
+        let wind_pauschal =
+            filed((WIND, PAUSCHAL, 1_000_000), (NEGATIVE, 2), &[before_quarter(9, 0), quarter(8, 0, 0, 0)]);
+        let month = filed((OTHER, SPITZ, 1_000_000), (NEGATIVE, 2), &vec![quarter(1_000, 0, 0, 3_000); 2_976]);
+        let longer = filed((OTHER, SPITZ, 1_000_000), (NEGATIVE, 2), &vec![quarter(1_000, 0, 0, 3_000); 2_977]);
+        // The measure is record 2 in each, for wind Spitz too.
+        let rows: &[(&str, &[u8], i64, &[Set], u32)] = &[
+            ("h, month 13, undated", &h, 0, &[Byte(4, 1, 13)], 9),
+            ("h", &h, 3_506_400, &[], 18),
+            ("h", &h, 3_506_401, &[], 18),
+            ("h", &h, 2_147_483_648, &[], 18),
+            ("h", &h, 4_294_967_295, &[], 18),
+            ("other Spitz", &other_spitz, 3_506_400, &[], 0),
+            ("other Spitz", &other_spitz, 3_506_401, &[], 18),
+            ("wind Spitz", &wind_spitz, 3_506_400, &[], 0),
+            ("wind Spitz", &wind_spitz, 3_506_401, &[], 18),
+            ("solar Spitz", &solar_spitz, 3_506_400, &[], 0),
+            ("solar Spitz", &solar_spitz, 3_506_401, &[], 18),
+            ("wind Pauschal", &wind_pauschal, 1, &[], 0),
+            ("wind Pauschal", &wind_pauschal, 3_506_401, &[], 18),
+            ("a", &a, 1, &[], 0),
+            ("a", &a, 3_506_399, &[], 18),
+            ("month", &month, 3_503_425, &[], 0),
+            ("month", &month, 3_503_426, &[], 18),
+            ("a, execution 4", &a, 3_506_401, &[Byte(2, 2, 4)], 7),
+            ("a, mark 0", &a, 3_506_401, &[Byte(3, 1, 0)], 11),
+            ("a, r5[4] = 5", &a, 3_506_401, &[Number(5, 4, 5)], 2),
+            ("a, r2[12] = 0", &a, 3_506_401, &[Number(2, 12, 0)], 8),
+            ("2,977 quarters", &longer, 3_506_401, &[], 8),
+            ("a, r6[8] too large", &a, 3_506_401, &[Number(6, 8, 1_000_000_001)], 9),
+            ("h, r4[8] too small", &h, 3_506_401, &[Number(4, 8, -1_000_000_001)], 9),
+        ];
+        for &(name, bytes, first, changes, expected) in rows {
+            let mut bytes = bytes.to_vec();
+            set(&mut bytes, &[Number(2, 16, first)]);
+            set(&mut bytes, changes);
+            tests.same(&format!("F 15 dates, {name}, date {first}"), number(&bytes, 1, 1), expected);
+        }
+
+        let late = case_a(&[Number(2, 16, 3_506_401)]);
+        for (list, result) in [(16, 24), (0, 24), (24, 23)] {
+            let name = format!("F 15 dates, C: list of {list}, result of {result}");
+            tests.same(&name, from_c(&late, list, result), (18, vec![0xee; list], vec![0xee; result]));
+        }
+        let mut dated = h;
+        set(&mut dated, &[Number(2, 16, 929_124)]);
+        tests.same("F 15 dates, list of 1", from_c(&dated, 8, 24).0, 13);
+        tests.same("F 15 dates, program", printed(&late), "E 1 1 18\n".into());
+        tests.same("F 15 dates, audit", audit(&late), 0);
+        let mut later = one_more(late);
+        tests.same("F 15 dates, append", append(&mut later, 2, &quarter(0, 0, 0, 0)), 0);
+    }
+
+    /// The archive `dated` of R 13.
+    fn dated(tests: &mut Tests) {
+        let mut bytes = vec![0; 2_752];
+        fresh(&mut bytes);
+        let quarter = |byte1: u8, byte2: u8, measured: i64| record(QUARTER, byte1, byte2, &[(8, measured)]);
+        let mut first = vec![quarter(13, 255, 12_345)];
+        first.extend(vec![quarter(7, 40, 0); 56]);
+        first.push(quarter(13, 255, 54_321));
+        let other = record(QUARTER, 13, 255, &[(8, 400_000), (12, 600_000), (20, 1_000_000)]);
+        // Date and quarters of each measure.
+        let solar = vec![
+            (940_876, first),
+            (946_752, vec![quarter(0, 0, -300), quarter(0, 0, -301), quarter(0, 0, -300)]),
+            (987_481, vec![quarter(3, 24, 0)]),
+            (987_577, vec![quarter(2, 24, 0)]),
+            (3_506_400, vec![quarter(13, 255, -1_000)]),
+            (3_506_400, vec![quarter(13, 255, 0); 2]),
+            (2_147_483_648, vec![quarter(7, 36, 0)]),
+            (4_294_967_295, vec![quarter(7, 36, 0); 2]),
+            (0, vec![quarter(7, 36, 0)]),
+        ];
+        let others = vec![(937_921, vec![other.clone()]), (3_506_401, vec![other])];
+        let plants = [
+            (record(PLANT, SOLAR, PAUSCHAL, &[(16, 800_000)]), 2, solar),
+            (record(PLANT, OTHER, SPITZ, &[(16, 1_000_000)]), 1, others),
+        ];
+        let mut numbers = Vec::new();
+        for (plant, execution, measures) in plants {
+            let plant_number = unsigned(&bytes, USED) as u64;
+            numbers.push(append(&mut bytes, 0, &plant));
+            for (first, quarters) in measures {
+                let measure = unsigned(&bytes, USED) as u64;
+                numbers.push(append(&mut bytes, plant_number, &record(MEASURE, NEGATIVE, execution, &[(16, first)])));
+                for new in quarters {
+                    numbers.push(append(&mut bytes, measure, &new));
+                }
+            }
+        }
+        tests.same("R 13 dated, filed and sound", (numbers, audit(&bytes)), (vec![0; 85], 0));
+
+        let zeros: String = (2..58).map(|place| format!("Q {place} 0\n")).collect();
+        let expected = format!(
+            "M 1 1 58 88373 60\nQ 1 46033\n{zeros}Q 58 42340\nM 1 2 3 225 6\nQ 1 75\nQ 2 75\nQ 3 75\n\
+            M 1 3 1 0 5\nQ 1 0\nM 1 4 1 49120 6\nQ 1 49120\nM 1 5 1 250 7\nQ 1 250\nE 1 6 18\nE 1 7 18\nE 1 8 18\n\
+            M 1 9 1 123780 11\nQ 1 123780\nM 2 1 1 100000 4\nQ 1 100000\nE 2 2 18\n"
+        );
+        tests.same("R 13 dated, program", (printed(&bytes), expected.len()), (expected, 617));
+    }
+
     /// One case as it stands in the input.
     fn case(call: u8, a: u64, b: u64, parts: [&[u8]; 4]) -> Vec<u8> {
         let mut bytes = vec![call];
@@ -1105,17 +1432,20 @@ mod self_test {
             case(4, 2, 0, [&[], &[], archive, &quarter(0, 0, 0, 0)]),
             case(5, 0, 0, [&[], &[], archive, &[]]),
             case(6, 0, 0, [&[], &[], archive, &[]]),
+            case(7, 937_921, 0, [&9_806u32.to_le_bytes(), &[0xee; 8], &[], &[]]),
+            case(7, 0, 0, [&[], &[0xff; 8], &[], &[]]),
         ];
         let (_, list, result) = from_c(archive, 24, 24);
         let text = "M 1 1 3 224999 6\nQ 1 74999\nQ 2 75000\nQ 3 75000\n";
         let expected = format!(
-            "1 0 {:016x} {:016x}\n2 192\n2 224\n3 1 {:016x}\n4 16 {:016x}\n5 0\n6 {:016x} {}\n",
+            "1 0 {:016x} {:016x}\n2 192\n2 224\n3 1 {:016x}\n4 16 {:016x}\n5 0\n6 {:016x} {}\n7 0 9807\n7 18 {}\n",
             hash(&list),
             hash(&result),
             hash(&archive[..33]),
             hash(archive),
             hash(text.as_bytes()),
-            text.len()
+            text.len(),
+            u64::MAX
         );
         let mut output = Vec::new();
         let ended = run_cases(&mut &input.concat()[..], &mut output).is_ok();
@@ -1131,6 +1461,10 @@ mod self_test {
         sections_6_9_12(&mut tests);
         figures(&mut tests);
         factors(&mut tests);
+        dates(&mut tests);
+        delivery_days(&mut tests);
+        section_15_dates(&mut tests);
+        dated(&mut tests);
         sizes(&mut tests);
         println!("{} passed, {} failed", tests.passed, tests.failed);
         (tests.failed != 0) as i32

@@ -5,8 +5,9 @@
 //! another number.
 
 use reference::archive::{field, used};
+use reference::calendar::{next_days, Date, Day, QuarterHour, LAST};
 use reference::generate::{self, Call, NUMBERS, SETTLED};
-use reference::settle::{terms, Pairing};
+use reference::settle::{first_quarter, terms, Pairing};
 use reference::slips::{self, Of, Slip, SLIPS};
 use std::collections::BTreeMap;
 use std::env;
@@ -16,6 +17,9 @@ use std::process::ExitCode;
 struct Tally {
     numbers: BTreeMap<(&'static str, u32), u64>,
     settled: BTreeMap<(Pairing, u8, u8), u64>,
+    dated: BTreeMap<Pairing, u64>,
+    late: BTreeMap<Pairing, u64>,
+    beside: BTreeMap<u32, u64>,
     sizes: BTreeMap<&'static str, u64>,
     slips: Vec<u64>,
     unexpected: u64,
@@ -44,6 +48,70 @@ impl Tally {
     }
 }
 
+/// What the lent day of a delivery day holds before the call.
+const KEPT: u64 = 77;
+
+/// A dated measure that settled.
+fn dated(tally: &mut Tally, pairing: Pairing, first: u64, count: u64) {
+    *tally.dated.entry(pairing).or_default() += 1;
+    let last = first + count - 1;
+    tally.size("dated measures that end with quarter 3,506,400", last == LAST.0);
+    if pairing != Pairing::SolarPauschal {
+        return;
+    }
+    let date = |number| QuarterHour(number).day().date();
+    let (from, to): (Date, Date) = (date(first), date(last));
+    let summer = |date: Date| (3..=10).contains(&date.month);
+    let leap_day =
+        (first..=last).step_by(96).chain([last]).any(|number| (date(number).month, date(number).day) == (2, 29));
+    tally.size("dated solar Pauschal over midnight", from != to);
+    tally.size("dated solar Pauschal over a month's end", (from.year, from.month) != (to.year, to.month));
+    tally.size("dated solar Pauschal from summer to winter", summer(from) && !summer(to));
+    tally.size("dated solar Pauschal from winter to summer", !summer(from) && summer(to));
+    tally.size("dated solar Pauschal over a year's end", from.year != to.year);
+    tally.size("dated solar Pauschal on 29 February", leap_day);
+}
+
+/// A measure refused with 18.
+fn late(tally: &mut Tally, pairing: Pairing, first: u64, places: usize, result: usize) {
+    *tally.late.entry(pairing).or_default() += 1;
+    tally.size("18 for 3,506,401", first == LAST.0 + 1);
+    tally.size("18 for the last quarter only", first <= LAST.0);
+    tally.size("18 for a date from 2^31 on", first >= 1 << 31);
+    tally.size("18 for the largest date", first == u64::from(u32::MAX));
+    tally.size("18 with a list of no place", places == 0);
+    tally.size("18 with a result part not of 24 bytes", result != 24);
+}
+
+/// A quarter of the calendar and its list.
+fn delivered(tally: &mut Tally, quarter: u64, holidays: &[u32], day: u64) {
+    let works = |day: &Day| day.weekday() <= 5;
+    let days: Vec<Day> = next_days(QuarterHour(quarter)).collect();
+    let listed = |day: &Day| holidays.iter().any(|&holiday| u64::from(holiday) == day.0);
+    let left = days.iter().filter(|&day| works(day) && !listed(day)).count();
+    let date = QuarterHour(quarter).day().date();
+    let mut unlike = holidays.to_vec();
+    unlike.sort_unstable();
+    unlike.dedup();
+    tally.size("delivery days of 0", day == 0);
+    tally.size("delivery days in January 2100", day > LAST.0 / 96);
+    tally.size("delivery days with an empty list", holidays.is_empty());
+    tally.size("delivery days with 3 working days left", left == 3);
+    tally.size("delivery days with 4 working days left", left == 4);
+    tally.size("delivery days with 5 working days left", left == 5);
+    tally.size("delivery days with all days listed", days.iter().all(listed));
+    tally.size("delivery days with repeats in the list", unlike.len() < holidays.len());
+    tally.size("delivery days with a list out of order", holidays.windows(2).any(|pair| pair[0] > pair[1]));
+    tally.size("delivery days with a weekend listed", days.iter().any(|day| listed(day) && !works(day)));
+    tally.size(
+        "delivery days with 0 or the largest number listed",
+        listed(&Day(0)) || listed(&Day(u64::from(u32::MAX))),
+    );
+    tally.size("delivery days of a quarter in December", date.month == 12);
+    tally.size("delivery days of the last quarter of a month", quarter % 96 == 0 && days[0].0 == quarter / 96 + 1);
+    tally.size("delivery days of quarter 3,506,400", quarter == LAST.0);
+}
+
 fn one_call(tally: &mut Tally, seed: u64, index: u64) {
     let case = generate::call(seed, index);
     let number = match case.call {
@@ -52,12 +120,15 @@ fn one_call(tally: &mut Tally, seed: u64, index: u64) {
             let number = reference::host_settle(&archive, p, k, &mut later, &mut lent);
             tally.number("settle", number);
             if number == 0 {
-                if let Some(terms) = terms(&archive, p, k) {
-                    *tally.settled.entry(terms).or_default() += 1;
-                }
                 let count = u64::from_le_bytes(lent[0..8].try_into().unwrap()) as usize;
                 let links = u64::from_le_bytes(lent[16..24].try_into().unwrap());
                 let total = i64::from_le_bytes(lent[8..16].try_into().unwrap());
+                if let (Some(terms), Some(first)) = (terms(&archive, p, k), first_quarter(&archive, p, k)) {
+                    *tally.settled.entry(terms).or_default() += 1;
+                    if first != 0 {
+                        dated(tally, terms.0, first, count as u64);
+                    }
+                }
                 tally.size("settled measures of 2,976 quarters", count == 2_976);
                 tally.size("settled with a list as long as the quarters", list.len() / 8 == count);
                 tally.size("settled with a longer list", list.len() / 8 > count);
@@ -65,6 +136,14 @@ fn one_call(tally: &mut Tally, seed: u64, index: u64) {
                 tally.size("settled with amounts that aren't zero", total != 0);
                 tally.size("settled over more than 100 links", links > 100);
                 tally.size("settled total beyond 10^15 Wh", total.unsigned_abs() > 1_000_000_000_000_000);
+            }
+            if let (Some(terms), Some(first)) = (terms(&archive, p, k), first_quarter(&archive, p, k)) {
+                if number == 18 {
+                    late(tally, terms.0, first, list.len() / 8, result.len());
+                }
+                if first > LAST.0 {
+                    *tally.beside.entry(number).or_default() += 1;
+                }
             }
             tally.size("places beyond 32 bits", p >> 32 != 0 || k >> 32 != 0);
             tally.size("result parts of 0 bytes", result.is_empty());
@@ -125,6 +204,22 @@ fn one_call(tally: &mut Tally, seed: u64, index: u64) {
             });
             Some(number)
         }
+        Call::DeliveryDay { quarter, holidays } => {
+            let mut day = KEPT;
+            let number = reference::host_delivery_day(quarter, &holidays, &mut day);
+            tally.number("delivery day", number);
+            if number == 0 {
+                delivered(tally, quarter, &holidays, day);
+            }
+            tally.size("delivery day asked for quarter 0", quarter == 0);
+            tally.size("delivery day asked for quarter 3,506,401", quarter == LAST.0 + 1);
+            tally.size("delivery day asked for a quarter beyond 32 bits", quarter >> 32 != 0);
+            tally.slips(Of::DeliveryDay, (number, day), |slip| {
+                let mut day = KEPT;
+                (slips::delivery_day(slip, quarter, &holidays, &mut day), day)
+            });
+            Some(number)
+        }
     };
     if case.expected.is_some() && case.expected != number {
         tally.unexpected += 1;
@@ -169,7 +264,7 @@ fn main() -> ExitCode {
     let mut missed = Vec::new();
     println!("Seed {seed}, {count} calls and {} inputs for the program.", count / 20);
     let mut wanted = NUMBERS.to_vec();
-    wanted.push(("program", &[0, 1, 2, 3, 6, 7, 8, 9, 10, 11, 12]));
+    wanted.push(("program", &[0, 1, 2, 3, 6, 7, 8, 9, 10, 11, 12, 18]));
     println!("\nNumbers (program: M lines as 0, E lines by number)");
     for &(call, numbers) in &wanted {
         print!("  {call}:");
@@ -199,6 +294,25 @@ fn main() -> ExitCode {
             missed.push(format!("{pairing:?} {name} never settled in some execution"));
         }
     }
+
+    println!("\nDated, by pairing: settled, refused with 18");
+    for (pairing, _) in SETTLED.into_iter().filter(|&(_, direction)| direction == 2) {
+        let times = [&tally.dated, &tally.late].map(|map| map.get(&pairing).copied().unwrap_or(0));
+        println!("  {pairing:?}: {times:?}");
+        if times.contains(&0) {
+            missed.push(format!("{pairing:?} never settled dated, or never refused with 18"));
+        }
+    }
+
+    print!("\nA first quarter past 3,506,400, by the number given:");
+    for number in [2, 3, 6, 7, 8, 9, 10, 11, 12, 18] {
+        let times = tally.beside.get(&number).copied().unwrap_or(0);
+        print!(" {number}={times}");
+        if times == 0 {
+            missed.push(format!("no late date beside {number}"));
+        }
+    }
+    println!();
 
     println!("\nOther situations");
     for (what, times) in &tally.sizes {

@@ -61,14 +61,14 @@ magnitude-requires c κs =
     let s = at-limit-of .before .before .before in
     let a = s .args in
     let q = quarterOf (meaning (a .terms)) (a .index) (a .r .now) in
-    let h = s .pre .held in
+    let h = s .pre .0 .held in
     let l = at-l .l .given in
     let t = c .before .t .given in
     let limited = at-limit-of .limit-of .ensures in
     let b = means-bounded (a .reference) (a .powers .now) (h .ref) (h .means) (h .bounded) in
     let small = referred-small (meaning (a .terms)) (h .ref) q (l .1) limited (t .1) (at-numerator-of .numerator-of .ensures (h .ref) (h .means)) b in
     record {
-      divisor = s .pre .divides .small;
+      divisor = s .pre .0 .divides .small;
       reference = subst (λ (z : ℤ). mag z ≤ 4000000000000000000) (sym (back (t .0 .0) (omega (arith, small)))) small;
       limit = limited-small (meaning (a .terms)) (h .ref) q (l .1) limited;
     }
@@ -87,9 +87,9 @@ returns-3 c =
     let t = at-t .t .given in
     let limited = at-limit-of .limit-of .ensures in
     λ ref m.
-    let b = means-bounded (a .reference) (a .powers .now) ref m (s .pre .held .bounded) in
+    let b = means-bounded (a .reference) (a .powers .now) ref m (s .pre .0 .held .bounded) in
     let referred = at-numerator-of .numerator-of .ensures ref m in
-    exact-is (meaning (a .terms)) ref q (l .1) limited (t .1) referred (s .pre .divides .is (a .powers .now) ref m)
+    exact-is (meaning (a .terms)) ref q (l .1) limited (t .1) referred (s .pre .0 .divides .is (a .powers .now) ref m)
     (c .magnitude .ensures
     ∙ ap (λ (z : ℤ). magnitude (a .terms .direction) (a .d) z (l .0 .0 .0))
     (back (t .0 .0) (omega (arith, referred-small (meaning (a .terms)) ref q (l .1) limited (t .1) referred b))))

@@ -31,13 +31,16 @@ direction-of-requires c κs = search needs
 execution-of-requires : tie.Need-execution-of-requires
 execution-of-requires c κs = search needs
 
+link-at-requires : tie.Need-link-at-requires
+link-at-requires c κs = search needs
+
 returns-3 : tie.Need-returns-3
 returns-3 c =
-    let nominal = c .before .before in
+    let nominal = c .before .before .before in
     let variant = nominal .before in
     let a = variant .before .before .before .before .before .before .before .before .args in
     admit-both (a .plant .now) (a .measure .now) (search allowed-by) (search allowed-by)
-    (variant .before .technology-of .ensures) (variant .variant-of .ensures) (nominal .watt-at .ensures) (c .before .direction-of .ensures) (c .execution-of .ensures)
+    (variant .before .technology-of .ensures) (variant .variant-of .ensures) (nominal .watt-at .ensures) (c .before .before .direction-of .ensures) (c .before .execution-of .ensures) (c .link-at .ensures .0)
 
 pub admit-spec : {M : Type 1} → statement M
 admit-spec =
@@ -52,4 +55,5 @@ admit-spec =
     watt-at-requires
     direction-of-requires
     execution-of-requires
+    link-at-requires
     returns-3)

@@ -22,10 +22,11 @@ mod c {
         ) -> u32;
         pub fn sandegmur_audit(archive: *const u8, archive_length: usize) -> u32;
         pub fn sandegmur_show(archive: *const u8, archive_length: usize, number: u64) -> u64;
+        pub fn sandegmur_delivery_day(quarter: u64, holidays: *const u32, holiday_count: usize, day: *mut u64) -> u32;
     }
 }
 
-// Safety, of all five: pointer and length of every part come from one live slice, and the parts don't overlap.
+// Safety, of all six: pointer and length of every part come from one live slice, and the parts don't overlap.
 
 pub fn settle(archive: &[u8], p: u64, k: u64, list: &mut [u8], result: &mut [u8]) -> u32 {
     unsafe {
@@ -59,4 +60,9 @@ pub fn audit(archive: &[u8]) -> u32 {
 #[allow(dead_code)]
 pub fn show(archive: &[u8], number: u64) -> u64 {
     unsafe { c::sandegmur_show(archive.as_ptr(), archive.len(), number) }
+}
+
+#[allow(dead_code)]
+pub fn delivery_day(quarter: u64, holidays: &[u32], day: &mut u64) -> u32 {
+    unsafe { c::sandegmur_delivery_day(quarter, holidays.as_ptr(), holidays.len(), day) }
 }

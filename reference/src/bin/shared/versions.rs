@@ -16,12 +16,15 @@ const RTLD_NOW: c_int = 2;
 type Settle = unsafe extern "C" fn(*const u8, usize, u64, u64, *mut u8, usize, *mut u8, usize) -> u32;
 type Append = unsafe extern "C" fn(*mut u8, usize, u64, *const u8, usize) -> u32;
 type Audit = unsafe extern "C" fn(*const u8, usize) -> u32;
+type DeliveryDay = unsafe extern "C" fn(u64, *const u32, usize, *mut u64) -> u32;
 
 /// The library at one place of the code.
 pub struct Place {
     settle: Settle,
     append: Append,
     audit: Audit,
+    /// None in a version before dates.
+    delivery_day: Option<DeliveryDay>,
 }
 
 pub struct Version {
@@ -43,6 +46,12 @@ impl Version {
     }
 }
 
+impl Version {
+    pub fn delivers(&self) -> bool {
+        self.places.iter().all(|place| place.delivery_day.is_some())
+    }
+}
+
 impl Place {
     fn load(path: &Path) -> Place {
         let name = CString::new(path.as_os_str().as_bytes()).expect("a path");
@@ -59,11 +68,15 @@ impl Place {
                 settle: std::mem::transmute::<*mut c_void, Settle>(symbol(b"settle\0")),
                 append: std::mem::transmute::<*mut c_void, Append>(symbol(b"sandegmur_append\0")),
                 audit: std::mem::transmute::<*mut c_void, Audit>(symbol(b"sandegmur_audit\0")),
+                delivery_day: std::mem::transmute::<*mut c_void, Option<DeliveryDay>>(dlsym(
+                    object,
+                    b"sandegmur_delivery_day\0".as_ptr().cast(),
+                )),
             }
         }
     }
 
-    // Safety, of all three: pointer and length of every part come from one live slice, and the parts don't overlap.
+    // Safety, of all four: pointer and length of every part come from one live slice, and the parts don't overlap.
 
     pub fn settle(&self, archive: &[u8], p: u64, k: u64, list: &mut [u8], result: &mut [u8]) -> u32 {
         let (lent, places, parts) = (archive.as_ptr(), list.as_mut_ptr(), result.as_mut_ptr());
@@ -76,5 +89,10 @@ impl Place {
 
     pub fn audit(&self, archive: &[u8]) -> u32 {
         unsafe { (self.audit)(archive.as_ptr(), archive.len()) }
+    }
+
+    pub fn delivery_day(&self, quarter: u64, holidays: &[u32], day: &mut u64) -> u32 {
+        let call = self.delivery_day.expect("a version with dates");
+        unsafe { call(quarter, holidays.as_ptr(), holidays.len(), day) }
     }
 }
