@@ -1,18 +1,16 @@
 -- The clock of a measure's quarters: the first one's, and along the measure.
-use mathlib.Core.Path.{_≡_, refl, sym, _∙_, ap, ap₂}
-use mathlib.Core.Bool.{Bool, true, false, cond}
+use mathlib.Core.Path.{_≡_, sym, _∙_, ap, ap₂}
 use Prim.Native.Nat.{ℕ, _+_, _-_, _/_, _%_, _≤_, _<_, _^_}
 use native.Mathlib.Omega.{arith}
-use borrow.Author.Tests.{lt-ltb, le-ltb, ne-eqb, eqb-false}
-use lib.Dec.{eqb}
+use borrow.Author.Tests.{lt-ltb, le-ltb}
 use Rattle.rules.specs.Calendar.{dateOf, dayOf, quarterOfDay, dayAfter}
 use Rattle.rules.specs.declared.Date.{Date}
 use Rattle.rules.proofs.Calendar.{Order, before, same, behind, order, date-next, is-date, year-low, day-some, day-few, quarter-few, next-in-day, next-day}
 use Rattle.calendar.specs.declared.Clock.{Clock}
-use Rattle.calendar.specs.Clocks.{undated, clockOf, clockAfter, CanAdvance, Begins}
+use Rattle.calendar.specs.Clocks.{clockOf, clockAfter, CanAdvance, Begins}
 
 abbrev on : Date → ℕ → Clock
-on date until = record { dated = true; date = date; until = until }
+on date until = record { date = date; until = until }
 
 -- ---- a quarter later
 
@@ -21,7 +19,7 @@ module _ (c : Clock) (index : ℕ) where
   unfolding clockAfter
   same-day k = rw (lt-ltb index (c .until) k)
 
-  pub new-day : {date : Date} → date ≡ dayAfter (c .date) → c .until ≤ index → record { dated = c .dated; date = date; until = c .until + 96 } ≡ clockAfter c index
+  pub new-day : {date : Date} → date ≡ dayAfter (c .date) → c .until ≤ index → on date (c .until + 96) ≡ clockAfter c index
   unfolding clockAfter
   new-day e k = rw (le-ltb index (c .until) k, e)
 
@@ -54,52 +52,33 @@ module _ (index number : ℕ) (some : 1 ≤ number) where
       by (same e) = at-midnight (omega arith)
       by (behind b) = at-midnight (omega arith)
 
-pub clock-next : (first index : ℕ) → index < 65536 → clockAfter (clockOf first index) (index + 1) ≡ clockOf first (index + 1)
+pub clock-next : (first index : ℕ) → 1 ≤ first → clockAfter (clockOf first index) (index + 1) ≡ clockOf first (index + 1)
 unfolding clockOf
-clock-next first index few = by (eqb first 0) refl
-  where
-    by : (t : Bool) → eqb first 0 ≡ t
-        → clockAfter (cond t undated (on (dateOf (dayOf (first + index))) (index + (96 - quarterOfDay (first + index))))) (index + 1)
-        ≡ cond t undated (on (dateOf (dayOf (first + (index + 1)))) (index + 1 + (96 - quarterOfDay (first + (index + 1)))))
-    by true e = sym (same-day undated (index + 1) (omega arith))
-    by false e =
-        let h = eqb-false first 0 e in
-        let sum : first + (index + 1) ≡ first + index + 1 = omega arith in
-        rw sum (clock-turns index (first + index) (omega (arith, h)))
+clock-next first index some =
+    let sum : first + (index + 1) ≡ first + index + 1 = omega arith in
+    rw sum (clock-turns index (first + index) (omega arith))
 
 -- ---- the first quarter
 
 module _ (first : ℕ) where
   can-advance : first < 2 ^ 64 → (index : ℕ) → index < 65536 → CanAdvance (clockOf first index) (index + 1)
   unfolding clockOf
-  can-advance low index few = by (eqb first 0)
-    where
-      by : (t : Bool) → CanAdvance (cond t undated (on (dateOf (dayOf (first + index))) (index + (96 - quarterOfDay (first + index))))) (index + 1)
-      by true k = absurd (omega arith)
-      by false k =
-          let day = dayOf (first + index) in
-          let d = is-date day (day-some (first + index)) in
-          record {
-            month-some = d .month-some;
-            month-few = d .month-few;
-            year-low = omega (arith, year-low day (day-some (first + index)), day-few (first + index), low, few);
-            until-low = omega (arith, few);
-          }
+  can-advance low index few k =
+      let day = dayOf (first + index) in
+      let d = is-date day (day-some (first + index)) in
+      record {
+        month-some = d .month-some;
+        month-few = d .month-few;
+        year-low = omega (arith, year-low day (day-some (first + index)), day-few (first + index), low, few);
+        until-low = omega (arith, few);
+      }
 
-  clock-undated : first ≡ 0 → undated ≡ clockOf first 0
-  unfolding clockOf
-  clock-undated e = rw e
-
-  clock-dated : (first ≡ 0 → ⊥) → {date : Date} → date ≡ dateOf ((first - 1) / 96 + 1) → on date (96 - (first - 1) % 96) ≡ clockOf first 0
+  clock-first : {date : Date} → date ≡ dateOf ((first - 1) / 96 + 1) → on date (96 - (first - 1) % 96) ≡ clockOf first 0
   unfolding clockOf dayOf quarterOfDay
-  clock-dated h e =
+  clock-first e =
       let z : first + 0 ≡ first = omega arith in
       let u : 0 + (96 - (first - 1) % 96) ≡ 96 - (first - 1) % 96 = omega arith in
-      rw (ne-eqb first 0 h, z, u, e)
+      rw (z, u, e)
 
-  pub begins-undated : first < 2 ^ 64 → first ≡ 0 → Begins (clockOf first) undated
-  begins-undated low e = record { is = clock-undated e; goes-on = can-advance low }
-
-  pub begins-dated : first < 2 ^ 64 → (first ≡ 0 → ⊥) → {date : Date} → date ≡ dateOf ((first - 1) / 96 + 1)
-      → Begins (clockOf first) (on date (96 - (first - 1) % 96))
-  begins-dated low h e = record { is = clock-dated h e; goes-on = can-advance low }
+  pub begins : first < 2 ^ 64 → {date : Date} → date ≡ dateOf ((first - 1) / 96 + 1) → Begins first (on date (96 - (first - 1) % 96))
+  begins low e = record { is = clock-first e; goes-on = can-advance low }

@@ -6,7 +6,7 @@ ghost use Prim.Native.Nat.{_+_, _%_, _≤_, _<_, _^_};
 ghost use lib.Dec.{ltb};
 ghost use lib.ListN.{length};
 ghost use Rattle.rules.specs.Calendar.{isLeapYear, yearLength, monthLength, inYear, daysOfYears, dateOf, dayAfter, nextMonth, deliveryDay};
-ghost use Rattle.calendar.specs.Clocks.{Passed, clockOf, clockAfter, CanAdvance, Begins};
+ghost use Rattle.calendar.specs.Clocks.{Passed, clockAfter, CanAdvance, Begins};
 ghost use Rattle.calendar.specs.Deliveries.{Marked, isWorkingByMarks, passing, deliveryAnswer};
 use rules::Date;
 use rules::refusal;
@@ -125,35 +125,20 @@ fn day_after(date: Date) -> Date
     }
 }
 
-// The day that a quarter of a measure lies in, and the index along the measure of the quarter with which the next day begins.
+// The day that a dated measure's quarter lies in, and the index along the measure of the quarter with which the next day begins.
 pub struct Clock {
-    pub dated: bool,
     pub date: Date,
     pub until: u64,
 }
 
-// Of a measure without a date: no next day begins.
-pub const UNDATED: Clock = Clock {
-    dated: false,
-    date: Date {
-        year: 0,
-        month: 0,
-        day: 0,
-    },
-    until: 18446744073709551615,
-};
-
-// Of the first quarter, by its number; 0 is no date.
+// Of the first quarter, by its number.
 pub fn clock_of(first: QuarterNumber) -> Clock
-    ensures { λ r. ⌜ Begins (clockOf (first .0)) r ⌝ }
+    requires { ⌜ 1 ≤ first .0 ⌝ }
+    ensures { λ r. ⌜ Begins (first .0) r ⌝ }
 {
-    if first.0 == 0 {
-        return UNDATED;
-    }
     let passed = first.0 - 1;
     let date = date_of(DayNumber(passed / 96 + 1));
     Clock {
-        dated: true,
         date,
         until: 96 - passed % 96,
     }
@@ -169,7 +154,6 @@ pub fn after(clock: Clock, index: u64) -> Clock
     }
     let date = clock.date;
     Clock {
-        dated: clock.dated,
         date: day_after(date),
         until: clock.until + 96,
     }

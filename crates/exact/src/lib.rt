@@ -1,17 +1,19 @@
 // The exact magnitude of a quarter (document 01, 'Exact magnitude'): its numerator over 4 × D.
 ghost use mathlib.Core.Path.{_≡_};
+ghost use mathlib.Core.List.{[]};
 ghost use Rattle.rules.specs.Numbers.{orZero};
 ghost use Rattle.rules.specs.Terms.{quarterOf};
 ghost use Rattle.rules.specs.Reference as book;
 ghost use Rattle.rules.specs.Reference.{magnitude as magnitudeOf};
 ghost use Rattle.terms.specs.Meanings.{meaning};
 ghost use Rattle.reference.specs.References.{Means};
-ghost use Rattle.reference.specs.Times.{timeOf};
+ghost use Rattle.reference.specs.Times.{timingOf, Shows};
 ghost use Rattle.exact.specs.Exacts.{Room, Ready, quarterAnswer};
 use calendar::Clock;
 use record::Power;
 use reference::Numerator;
 use reference::Reference;
+use reference::Timing;
 use rules::Direction;
 use terms::Terms;
 use units::Watt;
@@ -39,27 +41,44 @@ pub enum Exact {
     OutOfRange,
 }
 
-// Of a measure's quarter, from its index along the chain, its clock, and its own 32 bytes; d is D, which all quarters of a measure share.
+// Of a measure's quarter, from its index along the chain and its own 32 bytes; d is D, which all quarters of a measure share.
 pub fn exact_of(
     terms: Terms,
     index: u64,
-    clock: Clock,
     reference: Reference,
     d: u64,
     powers: &[u32],
     r: &[u8],
 ) -> Exact
     requires { ⌜ Ready reference d (now powers) (now r) ⌝ }
-    requires { ⌜ clock ≡ timeOf reference (meaning terms) index ⌝ }
+    requires { ⌜ Timing.Own ≡ timingOf reference (meaning terms) ⌝ }
     ensures { λ x. ⌜ ((ref : book.Reference) → Means reference (now (powers .entry)) ref
         → x ≡ quarterAnswer (meaning terms) ref (quarterOf (meaning terms) index (now (r .entry)))) ⌝ }
 {
     let Power::Of(l) = limitation::limit_of(terms, r) else {
         return Exact::OutOfRange;
     };
-    let Numerator::Of(t) = reference::numerator_of(reference, powers, terms, index, clock, r) else {
+    let Numerator::Of(t) = reference::numerator_of(reference, powers, terms, index, r) else {
         return Exact::OutOfRange;
     };
     let direction = terms.direction;
     Exact::Of(magnitude(direction, d, t, l))
+}
+
+// Of a dated measure's quarter, solar Pauschal: by its clock.
+pub fn exact_on(terms: Terms, index: u64, clock: Clock, pn: Watt, d: u64, r: &[u8]) -> Exact
+    requires { ⌜ Ready (Reference.ByFactor pn) d [] (now r) ⌝ }
+    requires { ⌜ Shows (meaning terms) index clock ⌝ }
+    ensures { λ x. ⌜ x ≡ quarterAnswer (meaning terms) (book.byFactor (orZero (pn .0))) (quarterOf (meaning terms) index (now (r .entry))) ⌝ }
+{
+    let Power::Of(l) = limitation::limit_of(terms, r) else {
+        return Exact::OutOfRange;
+    };
+    let direction = terms.direction;
+    Exact::Of(magnitude(
+        direction,
+        d,
+        reference::numerator_on(pn, terms, index, clock, r),
+        l,
+    ))
 }

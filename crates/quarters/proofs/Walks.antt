@@ -1,6 +1,6 @@
 -- A walk over a measure's quarters, step by step, and what it has gathered at the chain's end.
-use mathlib.Core.Path.{_≡_, refl, sym, _∙_, ap}
-use mathlib.Core.Bool.{Bool, true, false, _&&_, _||_, and-true, and-false}
+use mathlib.Core.Path.{_≡_, refl, sym, _∙_, ap, subst}
+use mathlib.Core.Bool.{Bool, true, false, cond, _&&_, _||_, and-true, and-false}
 use mathlib.Core.List.{List, [], _∷_, _++_, map, append-nil}
 use Prim.Native.Nat.{ℕ, suc, _+_, _*_, _-_, _/_, _^_, _≤_, _<_}
 use native.Mathlib.Numerals.{add-one}
@@ -35,14 +35,17 @@ use Rattle.chains.proofs.Walking.{Walking, walk-starts, walk-turns, walk-ends, 
 use Rattle.terms.specs.Meanings.{meaning}
 use Rattle.place.specs.declared.Place.{Place}
 use Rattle.place.specs.Places.{meant}
+use Rattle.units.specs.declared.Watt.{Watt}
 use Rattle.reference.specs.declared.Reference.{Reference}
-use Rattle.reference.specs.References.{Means, Bounded}
+use Rattle.reference.specs.declared.Reference.the-variants.{ByFactor}
+use Rattle.reference.specs.References.{Means, Bounded, Divided}
 use Rattle.reference.proofs.References.{means-bounded}
 use Rattle.exact.specs.declared.Exact.{Exact}
 use Rattle.exact.specs.declared.Exact.the-variants as exact
 use Rattle.exact.specs.Exacts.{exactAnswer, quarterAnswer}
+use Rattle.quarters.specs.declared.Walked.{Walked}
 use Rattle.quarters.specs.declared.Walked.the-variants as walked
-use Rattle.quarters.specs.Walks.{isInRange, entered, WalkedBy, Walks}
+use Rattle.quarters.specs.Walks.{isInRange, entered, endOf, WalkedBy, Walks}
 
 -- the quarters met so far, whether every needed field of them is in range, and the sheet
 pub record Gathered : Type 0 where
@@ -188,6 +191,39 @@ module _ (archive : List ℕ) (place : settle.Place) (basis : Basis) where
                 (rw (← size) (sum-low _ _ (quartersRead place (h .entries)) (all-weaker _ (λ q e. exact-small (place .terms) (basis .reference) q bounded e) (all-passed (readable (place .terms) (basis .reference)) _ (sym (h .fine) ∙ f))))));
           }
 
+    walked-ended : bounds.Bounded (basis .reference) → WalkedBy archive place basis (g .sheet) (endOf (place .terms) (g .count) (g .fine))
+    unfolding endOf
+    walked-ended bounded = by (leb 1 (g .count) && leb (g .count) 2976) (g .fine) (datesAllowed (place .terms) (g .count)) refl refl refl
+      where
+        by : (counted fine allowed : Bool) → (leb 1 (g .count) && leb (g .count) 2976) ≡ counted → g .fine ≡ fine → datesAllowed (place .terms) (g .count) ≡ allowed
+            → WalkedBy archive place basis (g .sheet)
+            (cond counted (cond fine (cond allowed (walked.Count (g .count)) (walked.Refused notInCalendar)) (walked.Refused outOfRange)) (walked.Refused badCount))
+        by false fine allowed c f l = walked-uncounted c
+        by true false allowed c f l = walked-unreadable c f
+        by true true false c f l = walked-late c f l
+        by true true true c f l = walked-given c f l bounded
+
+-- ---- at the chain's end, by the code's tests
+
+module _ (terms : Terms) (count : ℕ) (fine : Bool) where
+  pub end-uncounted : (leb 1 count && leb count 2976) ≡ false → walked.Refused badCount ≡ endOf terms count fine
+  unfolding endOf
+  end-uncounted c = rw c
+
+  module _ (counted : (leb 1 count && leb count 2976) ≡ true) where
+    pub end-unreadable : fine ≡ false → walked.Refused outOfRange ≡ endOf terms count fine
+    unfolding endOf
+    end-unreadable f = rw (counted, f)
+
+    module _ (readable : fine ≡ true) where
+      pub end-late : datesAllowed terms count ≡ false → walked.Refused notInCalendar ≡ endOf terms count fine
+      unfolding endOf
+      end-late l = rw (counted, readable, l)
+
+      pub end-given : datesAllowed terms count ≡ true → walked.Count count ≡ endOf terms count fine
+      unfolding endOf
+      end-given l = rw (counted, readable, l)
+
 -- ---- the walk of the code
 
 -- it stands before a link, with a sheet that was `start`: for each reference that the code's stands for, the law of walking
@@ -205,6 +241,9 @@ module _ {archive : List ℕ} {used measure first : ℕ} {terms : Terms} {refere
   module _ {last link : ℕ} {g : Gathered} (h : Going archive used measure first terms reference powers start last link g) where
     pub going-counts : used < 65536 → Fits w64 (g .count + 1)
     going-counts few = record { fits = omega (arith, h .counted, h .below) }
+
+    pub going-few : used < 65536 → g .count < 65536
+    going-few few = omega (arith, h .counted, h .below)
 
     pub going-on : {n next : ℕ} {fine : Bool} {sheet : List ℕ} (magnitude : Exact) → Met archive used quarterKind last link n → next ≡ nextOf (recordAt archive n)
         → ((ref : book.Reference) → Means reference powers ref → magnitude ≡ exactAt terms ref (g .count) (recordAt archive n))
@@ -235,22 +274,23 @@ module _ {archive powers start : List ℕ} {reference : Reference} {first last l
         ended (meaning (place .terms)) (basis .reference) _ start g (h .size)
         (rw starts at (walk-ends _ archive (place .used) quarterKind (h .walking (basis .reference) m) end))
 
-    pub walks-uncounted : (leb 1 (g .count) && leb (g .count) 2976) ≡ false → Walks archive place reference powers (g .sheet) (walked.Refused badCount)
-    walks-uncounted k = record { by = λ basis m. walked-uncounted archive (meant archive place) basis g (ends basis m) k }
+    pub walks-ended : {answer : Walked} → answer ≡ endOf (meaning (place .terms)) (g .count) (g .fine) → Bounded reference → Walks archive place reference powers (g .sheet) answer
+    walks-ended e bounded = record {
+      by = λ basis m.
+          rw e (walked-ended archive (meant archive place) basis g (ends basis m) (means-bounded reference powers (basis .reference) m bounded));
+    }
 
-    module _ (counted : (leb 1 (g .count) && leb (g .count) 2976) ≡ true) where
-      pub walks-unreadable : g .fine ≡ false → Walks archive place reference powers (g .sheet) (walked.Refused outOfRange)
-      walks-unreadable f = record { by = λ basis m. walked-unreadable archive (meant archive place) basis g (ends basis m) counted f }
+-- where T is by the factor, no power of a curve is read
+pub divided-by-factor : {reference : Reference} {pn : Watt} {d : ℕ} {powers : List ℕ} → reference ≡ ByFactor pn → Divided reference d powers → Divided (ByFactor pn) d []
+divided-by-factor {reference} {pn} {d} {powers} told h =
+    let k = subst (λ (r : Reference). Divided r d powers) told h in
+    record { held = record { bounded = k .held .bounded; ref = k .held .ref; means = k .held .means }; divides = k .divides }
 
-      pub walks-late : g .fine ≡ true → datesAllowed (meaning (place .terms)) (g .count) ≡ false
-          → Walks archive place reference powers (g .sheet) (walked.Refused notInCalendar)
-      walks-late f l = record { by = λ basis m. walked-late archive (meant archive place) basis g (ends basis m) counted f l }
-
-      pub walks-given : g .fine ≡ true → datesAllowed (meaning (place .terms)) (g .count) ≡ true → Bounded reference
-          → Walks archive place reference powers (g .sheet) (walked.Count (g .count))
-      walks-given f l bounded = record {
-        by = λ basis m. walked-given archive (meant archive place) basis g (ends basis m) counted f l (means-bounded reference powers (basis .reference) m bounded);
-      }
+pub walks-by-factor : {archive powers sheet : List ℕ} {place : Place} {reference : Reference} {pn : Watt} {answer : Walked} → reference ≡ ByFactor pn
+    → Walks archive place (ByFactor pn) [] sheet answer → Walks archive place reference powers sheet answer
+walks-by-factor {archive} {powers} {sheet} {place} {reference} {pn} {answer} told w = record {
+  by = λ basis m. w .by basis (subst (λ (r : Reference). Means r powers (basis .reference)) told m);
+}
 
 -- ---- a place of the sheet
 

@@ -1,12 +1,14 @@
 -- A walk over a measure's quarters: what it answers, and what it leaves in the sheet of exact magnitudes.
 use mathlib.Core.Path.{_≡_}
-use mathlib.Core.Bool.{Bool, true, false}
+use mathlib.Core.Bool.{Bool, true, false, cond, _&&_}
 use mathlib.Core.List.{List}
 use Prim.Native.Nat.{ℕ, _/_, _^_, _≤_, _<_}
+use lib.Dec.{leb}
 use lib.ListN.{length, take, set}
 use Rattle.rules.specs.Outcome.{Outcome, refused, given}
 use Rattle.rules.specs.Numbers.{sum}
-use Rattle.rules.specs.Terms.{Quarter}
+use Rattle.rules.specs.Refusals.{badCount, outOfRange, notInCalendar}
+use Rattle.rules.specs.Terms.{Terms, Quarter}
 use Rattle.rules.specs.Settle as settle
 use Rattle.rules.specs.Settle.{Basis, quartersOf, exactsOf, measureDenominator}
 use Rattle.place.specs.declared.Place.{Place}
@@ -35,6 +37,13 @@ entered sheet count exact.OutOfRange = sheet
 abbrev pub walkedAnswer : Outcome (List Quarter) → Walked
 walkedAnswer (refused n) = walked.Refused n
 walkedAnswer (given quarters) = walked.Count (length quarters)
+
+-- what the chain's end says of so many quarters, by whether every needed field of them is in range
+unfoldable pub endOf : Terms → ℕ → Bool → Walked
+endOf terms count fine =
+    cond (leb 1 count && leb count 2976)
+    (cond fine (cond (settle.datesAllowed terms count) (walked.Count count) (walked.Refused notInCalendar)) (walked.Refused outOfRange))
+    (walked.Refused badCount)
 
 pub record WalkedBy (archive : List ℕ) (place : settle.Place) (basis : Basis) (sheet : List ℕ) (answer : Walked) : Type 0 where
   pub answers : answer ≡ walkedAnswer (quartersOf archive place basis)

@@ -2,20 +2,24 @@
 // written into a sheet.
 ghost use mathlib.Core.Path.{_≡_};
 ghost use mathlib.Core.Bool.{_&&_};
+ghost use mathlib.Core.List.{[]};
 ghost use Prim.Native.Nat.{_≤_};
 ghost use lib.Dec.{leb};
 ghost use Rattle.rules.specs.Settle.{datesAllowed};
 ghost use Rattle.terms.specs.Meanings.{meaning};
 ghost use Rattle.place.specs.Places.{Lies};
 ghost use Rattle.reference.specs.References.{Divided};
-ghost use Rattle.quarters.specs.Walks.{isInRange, entered, Walks};
+ghost use Rattle.reference.specs.Times.{timingOf};
+ghost use Rattle.quarters.specs.Walks.{isInRange, entered, endOf, Walks};
 use chains::Link;
 use exact::Exact;
 use place::Place;
 use reference::Reference;
+use reference::Timing;
 use rules::kind;
 use rules::refusal;
 use terms::Terms;
+use units::Watt;
 
 // A magnitude goes to its place of the sheet, if the sheet has that place; the answer is whether it is in range.
 fn enter(sheet: &mut [u64], count: usize, magnitude: Exact) -> bool
@@ -53,8 +57,97 @@ pub enum Walked {
     Refused(u64),
 }
 
-// The chain is walked to its end, however long, before 8, then 9 and then 18 are tested; d is D. A sheet of any length will do: a magnitude
-// that has no place there is tested and counted only.
+// At the chain's end: 8, then 9, then 18.
+fn ended(terms: Terms, count: usize, fine: bool) -> Walked
+    ensures { λ r. ⌜ r ≡ endOf (meaning terms) count fine ⌝ }
+{
+    let counted = in_count_range(count);
+    if !counted {
+        return Walked::Refused(refusal::BAD_COUNT);
+    }
+    if !fine {
+        return Walked::Refused(refusal::OUT_OF_RANGE);
+    }
+    if !in_calendar(terms, count) {
+        return Walked::Refused(refusal::NOT_IN_CALENDAR);
+    }
+    Walked::Count(count as u64)
+}
+
+// The chain is walked to its end, however long, before the tests there. A sheet of any length will do: a magnitude that has no place
+// there is tested and counted only.
+
+// Where T isn't found by the date.
+fn walk_own(
+    archive: &[u8],
+    place: Place,
+    reference: Reference,
+    d: u64,
+    powers: &[u32],
+    sheet: &mut [u64],
+) -> Walked
+    requires { ⌜ Lies (now archive) place ⌝ }
+    requires { ⌜ Divided reference d (now powers) ⌝ }
+    requires { ⌜ Timing.Own ≡ timingOf reference (meaning (place .terms)) ⌝ }
+    ensures { λ r. ⌜ Walks (now (archive .entry)) place reference (now (powers .entry)) (now (sheet .exit)) r ⌝ }
+{
+    let used = place.used;
+    let terms = place.terms;
+    let mut last = place.measure;
+    let mut link = record::link_of(archive, last, 12);
+    let mut count: usize = 0;
+    let mut fine = true;
+    while link != 0 {
+        let answer = chains::follow(archive, used, kind::QUARTER, last, link);
+        let Link::At(n) = answer else {
+            return Walked::Refused(chains::refusal_of(answer, 0));
+        };
+        let i = n as usize;
+        let index = count as u64;
+        let r = &archive[32 * i..32 * i + 32];
+        let magnitude = exact::exact_of(terms, index, reference, d, powers, r);
+        fine = enter(sheet, count, magnitude) & fine;
+        count += 1;
+        last = n;
+        link = record::link_of(archive, n, 4);
+    }
+    ended(terms, count, fine)
+}
+
+// Where it is, in solar Pauschal: a clock goes along.
+fn walk_dated(archive: &[u8], place: Place, pn: Watt, d: u64, sheet: &mut [u64]) -> Walked
+    requires { ⌜ Lies (now archive) place ⌝ }
+    requires { ⌜ Divided (Reference.ByFactor pn) d [] ⌝ }
+    requires { ⌜ 1 ≤ meaning (place .terms) .first ⌝ }
+    ensures { λ r. ⌜ Walks (now (archive .entry)) place (Reference.ByFactor pn) [] (now (sheet .exit)) r ⌝ }
+{
+    let used = place.used;
+    let terms = place.terms;
+    let mut last = place.measure;
+    let mut link = record::link_of(archive, last, 12);
+    let mut count: usize = 0;
+    let mut fine = true;
+    let first = terms.first;
+    let mut clock = calendar::clock_of(first);
+    while link != 0 {
+        let answer = chains::follow(archive, used, kind::QUARTER, last, link);
+        let Link::At(n) = answer else {
+            return Walked::Refused(chains::refusal_of(answer, 0));
+        };
+        let i = n as usize;
+        let index = count as u64;
+        let r = &archive[32 * i..32 * i + 32];
+        let magnitude = exact::exact_on(terms, index, clock, pn, d, r);
+        fine = enter(sheet, count, magnitude) & fine;
+        count += 1;
+        last = n;
+        link = record::link_of(archive, n, 4);
+        clock = calendar::after(clock, count as u64);
+    }
+    ended(terms, count, fine)
+}
+
+// The quarters of a measure, with or without a clock; d is D.
 pub fn walk(
     archive: &[u8],
     place: Place,
@@ -67,44 +160,9 @@ pub fn walk(
     requires { ⌜ Divided reference d (now powers) ⌝ }
     ensures { λ r. ⌜ Walks (now (archive .entry)) place reference (now (powers .entry)) (now (sheet .exit)) r ⌝ }
 {
-    let used = place.used;
     let terms = place.terms;
-    let mut last = place.measure;
-    let mut link = record::link_of(archive, last, 12);
-    let mut count: usize = 0;
-    let mut fine = true;
-    let mut clock = reference::starts(reference, terms);
-    while link != 0 {
-        let answer = chains::follow(archive, used, kind::QUARTER, last, link);
-        let Link::At(n) = answer else {
-            return Walked::Refused(chains::refusal_of(answer, 0));
-        };
-        let i = n as usize;
-        let index = count as u64;
-        let magnitude = exact::exact_of(
-            terms,
-            index,
-            clock,
-            reference,
-            d,
-            powers,
-            &archive[32 * i..32 * i + 32],
-        );
-        fine = enter(sheet, count, magnitude) & fine;
-        count += 1;
-        clock = calendar::after(clock, count as u64);
-        last = n;
-        link = record::link_of(archive, n, 4);
+    match reference::timing_of(reference, terms) {
+        Timing::Own => walk_own(archive, place, reference, d, powers, sheet),
+        Timing::Dated(pn) => walk_dated(archive, place, pn, d, sheet),
     }
-    let counted = in_count_range(count);
-    if !counted {
-        return Walked::Refused(refusal::BAD_COUNT);
-    }
-    if !fine {
-        return Walked::Refused(refusal::OUT_OF_RANGE);
-    }
-    if !in_calendar(terms, count) {
-        return Walked::Refused(refusal::NOT_IN_CALENDAR);
-    }
-    Walked::Count(count as u64)
 }

@@ -2,9 +2,10 @@
 use mathlib.Core.Path.{_≡_, refl, sym, _∙_, ap, ap₂, subst}
 use mathlib.Core.Bool.{true}
 use mathlib.Core.List.{List}
-use Prim.Native.Nat.{ℕ, _*_, _≤_, _<_}
+use Prim.Native.Nat.{ℕ, _≤_, _<_, _^_}
 use borrow.Author.Tests.{le-leb, lt-leb}
 use lib.IntN.{ℤ, pos, _*ℤ_}
+use lib.Signed.{mag}
 use Rattle.rules.specs.Numbers.{orZero, smaller}
 use Rattle.rules.specs.Terms.{isPower, isSpeed, isIrradiance, Point, Quarter}
 use Rattle.rules.specs.Reference as book
@@ -13,6 +14,7 @@ use Rattle.rules.specs.Settle.{referenceReadable}
 use Rattle.rules.proofs.Ranges.{within-natural}
 use Rattle.units.specs.declared.Watt.{Watt}
 use Rattle.units.specs.declared.Irradiance.{Irradiance}
+use Rattle.units.proofs.Laws.{held, back}
 use Rattle.record.specs.declared.Power.the-variants as power
 use Rattle.record.specs.Powers.{PowerOf}
 use Rattle.reference.specs.declared.Reference.{Reference}
@@ -58,6 +60,10 @@ module _ (q : Quarter) where
   pub last-referred : (p0 : Watt) (t : ℤ) → t ≡ p0 .0 → ReferredTo (book.lastMeasured (p0 .0)) q (over.Of t)
   unfolding numerator
   last-referred p0 t e = (refl, e)
+
+-- as the code holds a number
+pub referred-held : (ref : book.Reference) (q : Quarter) (t : ℤ) → mag t < 2 ^ 63 → ReferredTo ref q (over.Of t) → ReferredTo ref q (over.Of (held t))
+referred-held ref q t low h = (h .0, back t low ∙ h .1)
 
 -- by the variant that the code was told
 pub referred-told : {reference x : Reference} (e : reference ≡ x) (powers : List ℕ) (ref : book.Reference) (q : Quarter) (n : Numerator)

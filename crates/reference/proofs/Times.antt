@@ -1,88 +1,89 @@
--- The time of a measure's quarters: month and quarter of the day, and one quarter after the other.
-use mathlib.Core.Path.{_≡_, refl, sym, _∙_, ap, subst}
+-- The time of a measure's quarters: month and quarter of the day, from a quarter's own bytes or by its clock.
+use mathlib.Core.Path.{_≡_, refl, sym, _∙_, ap}
 use mathlib.Core.Bool.{Bool, true, false, cond}
 use mathlib.Core.List.{List}
-use Prim.Native.Nat.{ℕ, _+_, _-_, _≤_, _<_}
+use Prim.Native.Nat.{ℕ, _+_, _-_, _≤_}
 use native.Mathlib.Omega.{arith}
+use borrow.Author.Tests.{ne-eqb, eqb-true, eqb-false}
 use lib.Dec.{eqb}
 use Rattle.rules.specs.Archive.{byteAt}
-use Rattle.rules.specs.Calendar.{dateOf, dayOf, quarterOfDay}
 use Rattle.rules.specs.Terms.{Terms, numberAt, monthOf, quarterOfDayOf}
-use Rattle.rules.proofs.Calendar.{quarter-few}
+use Rattle.rules.proofs.Calendar.{quarter-few, is-date, day-some}
 use Rattle.calendar.specs.declared.Clock.{Clock}
-use Rattle.calendar.specs.Clocks.{undated, clockOf, clockAfter, Begins}
-use Rattle.calendar.proofs.Clocks.{same-day, clock-next}
+use Rattle.calendar.specs.Clocks.{clockOf}
 use Rattle.units.specs.declared.Watt.{Watt}
 use Rattle.reference.specs.declared.Reference.{Reference}
 use Rattle.reference.specs.declared.Reference.the-variants.{OnCurve, LastMeasured, OnIrradiance, ByFactor, AsPlanned}
-use Rattle.reference.specs.Times.{monthAt, quarterOfDayAt, timeOf}
+use Rattle.reference.specs.declared.Timing.{Timing}
+use Rattle.reference.specs.declared.Timing.the-variants.{Own, Dated}
+use Rattle.reference.specs.Times.{timingOf, Shows}
+
+-- ---- by the date or not
+
+pub timing-undated : (reference : Reference) (terms : Terms) → terms .first ≡ 0 → Own ≡ timingOf reference terms
+timing-undated (OnCurve a b pn curve) terms e = refl
+timing-undated (LastMeasured p0) terms e = refl
+timing-undated (OnIrradiance a b) terms e = refl
+timing-undated (ByFactor pn) terms e = rw e
+timing-undated AsPlanned terms e = refl
+
+-- by the variant that the code was told
+pub timing-told : {reference x : Reference} {t : Timing} (terms : Terms) → reference ≡ x → t ≡ timingOf x terms → t ≡ timingOf reference terms
+timing-told terms told e = e ∙ ap (λ (r : Reference). timingOf r terms) (sym told)
+
+pub timing-dated : (pn : Watt) (terms : Terms) → (terms .first ≡ 0 → ⊥) → Dated pn ≡ timingOf (ByFactor pn) terms
+timing-dated pn terms h = rw (ne-eqb (terms .first) 0 h)
+
+-- solar Pauschal by its own bytes has no date
+pub own-undated : {reference : Reference} {pn : Watt} (terms : Terms) → reference ≡ ByFactor pn → Own ≡ timingOf reference terms → terms .first ≡ 0
+own-undated {reference} {pn} terms told e = by (eqb (terms .first) 0) refl (e ∙ ap (λ (r : Reference). timingOf r terms) told)
+  where
+    by : (t : Bool) → eqb (terms .first) 0 ≡ t → Own ≡ cond t Own (Dated pn) → terms .first ≡ 0
+    by true k i = eqb-true (terms .first) 0 k
+    by false k i = let z : _≡_ {A = ℕ} 0 1 = cc in absurd (omega arith)
+
+-- where the date is read, it is solar Pauschal and there is one
+pub dated-by-factor : (reference : Reference) {pn : Watt} (terms : Terms) → Dated pn ≡ timingOf reference terms
+    → (reference ≡ ByFactor pn) × (1 ≤ terms .first)
+dated-by-factor (OnCurve a b pn curve) terms e = let z : _≡_ {A = ℕ} 0 1 = cc in absurd (omega arith)
+dated-by-factor (LastMeasured p0) terms e = let z : _≡_ {A = ℕ} 0 1 = cc in absurd (omega arith)
+dated-by-factor (OnIrradiance a b) terms e = let z : _≡_ {A = ℕ} 0 1 = cc in absurd (omega arith)
+dated-by-factor (ByFactor p) {pn} terms e = by (eqb (terms .first) 0) refl e
+  where
+    by : (t : Bool) → eqb (terms .first) 0 ≡ t → Dated pn ≡ cond t Own (Dated p) → (ByFactor p ≡ ByFactor pn) × (1 ≤ terms .first)
+    by true k i = let z : _≡_ {A = ℕ} 0 1 = cc in absurd (omega arith)
+    by false k i = let h = eqb-false (terms .first) 0 k in let s : pn ≡ p = cc in (ap ByFactor (sym s), omega (arith, h))
+dated-by-factor AsPlanned terms e = let z : _≡_ {A = ℕ} 0 1 = cc in absurd (omega arith)
 
 -- ---- month and quarter of the day
 
--- by the code's test
-module _ (clock : Clock) (index : ℕ) (r : List ℕ) where
-  pub own-month : {n : ℕ} → clock .dated ≡ false → n ≡ byteAt r 1 → n ≡ monthAt clock r
-  own-month e i = rw e i
+module _ (terms : Terms) (index : ℕ) (r : List ℕ) where
+  -- from the quarter's own bytes
+  module _ (undated : terms .first ≡ 0) where
+    pub own-month : byteAt r 1 ≡ monthOf terms index r
+    unfolding monthOf
+    own-month = rw undated
 
-  pub dated-month : clock .dated ≡ true → clock .date .month ≡ monthAt clock r
-  dated-month e = rw e
+    pub own-quarter : byteAt r 2 ≡ quarterOfDayOf terms index r
+    unfolding quarterOfDayOf
+    own-quarter = rw undated
 
-  pub own-quarter : {n : ℕ} → clock .dated ≡ false → n ≡ byteAt r 2 → n ≡ quarterOfDayAt clock index r
-  own-quarter e i = rw e i
+  -- by the clock
+  module _ {clock : Clock} (h : Shows terms index clock) where
+    pub clock-month : clock .date .month ≡ monthOf terms index r
+    unfolding clockOf monthOf
+    clock-month = rw (ne-eqb (terms .first) 0 (λ e. omega (arith, h .some)), h .is)
 
-  pub dated-quarter : clock .dated ≡ true → 96 - (clock .until - index) ≡ quarterOfDayAt clock index r
-  dated-quarter e = rw e
+    pub clock-quarter : 96 - (clock .until - index) ≡ quarterOfDayOf terms index r
+    unfolding clockOf quarterOfDayOf
+    clock-quarter = rw (ne-eqb (terms .first) 0 (λ e. omega (arith, h .some)), h .is) (omega (arith, quarter-few (numberAt terms index)))
 
--- as the rules have them
-module _ (terms : Terms) (index : ℕ) where
-  abbrev clockBy : Bool → Clock
-  clockBy undatedly =
-      cond undatedly undated (record { dated = true; date = dateOf (dayOf (numberAt terms index)); until = index + (96 - quarterOfDay (numberAt terms index)) })
-
-  pub month-at : (r : List ℕ) → monthAt (clockOf (terms .first) index) r ≡ monthOf terms index r
-  unfolding clockOf monthOf
-  month-at r = by (eqb (terms .first) 0)
-    where
-      by : (t : Bool) → monthAt (clockBy t) r ≡ cond t (byteAt r 1) (dateOf (dayOf (numberAt terms index)) .month)
-      by true = refl
-      by false = refl
-
-  pub quarter-of-day-at : (r : List ℕ) → quarterOfDayAt (clockOf (terms .first) index) index r ≡ quarterOfDayOf terms index r
-  unfolding clockOf quarterOfDayOf
-  quarter-of-day-at r = by (eqb (terms .first) 0)
-    where
-      by : (t : Bool) → quarterOfDayAt (clockBy t) index r ≡ cond t (byteAt r 2) (quarterOfDay (numberAt terms index))
-      by true = refl
-      by false = omega (arith, quarter-few (numberAt terms index))
-
-  -- midnight is no more than a day away
-  pub until-near : clockOf (terms .first) index .dated ≡ true
-      → (index ≤ clockOf (terms .first) index .until) × (clockOf (terms .first) index .until ≤ index + 96)
+-- the clock is in range: midnight is no more than a day away
+module _ {terms : Terms} {index : ℕ} {clock : Clock} (h : Shows terms index clock) where
+  pub clock-month-near : (1 ≤ clock .date .month) × (clock .date .month ≤ 12)
   unfolding clockOf
-  until-near = by (eqb (terms .first) 0)
-    where
-      by : (t : Bool) → clockBy t .dated ≡ true → (index ≤ clockBy t .until) × (clockBy t .until ≤ index + 96)
-      by true e = let z : _≡_ {A = ℕ} 0 1 = cc in absurd (omega arith)
-      by false e = (omega arith, omega (arith, quarter-few (numberAt terms index)))
+  clock-month-near = let d = is-date _ (day-some (numberAt terms index)) in rw (h .is) (d .month-some, d .month-few)
 
--- ---- along the measure
-
-pub time-next : (reference : Reference) (terms : Terms) (index : ℕ) → index < 65536
-    → clockAfter (timeOf reference terms index) (index + 1) ≡ timeOf reference terms (index + 1)
-time-next (OnCurve a b pn curve) terms index few = sym (same-day undated (index + 1) (omega arith))
-time-next (LastMeasured p0) terms index few = sym (same-day undated (index + 1) (omega arith))
-time-next (OnIrradiance a b) terms index few = sym (same-day undated (index + 1) (omega arith))
-time-next (ByFactor pn) terms index few = clock-next (terms .first) index few
-time-next AsPlanned terms index few = sym (same-day undated (index + 1) (omega arith))
-
--- by the variant that the code was told
-pub time-by-factor : {reference : Reference} {pn : Watt} {clock : Clock} (terms : Terms) (index : ℕ) → reference ≡ ByFactor pn → clock ≡ timeOf reference terms index
-    → clock ≡ clockOf (terms .first) index
-time-by-factor terms index told e = e ∙ ap (λ (r : Reference). timeOf r terms index) told
-
-pub begins-told : {reference x : Reference} {clock : Clock} (terms : Terms) → reference ≡ x → Begins (timeOf x terms) clock → Begins (timeOf reference terms) clock
-begins-told {clock} terms told h = subst (λ (r : Reference). Begins (timeOf r terms) clock) (sym told) h
-
--- where no date is looked at
-pub begins-undated : Begins (λ index. undated) undated
-begins-undated = record { is = refl; goes-on = λ index few k. absurd (omega arith) }
+  pub clock-near : (index + 1 ≤ clock .until) × (clock .until ≤ index + 96)
+  unfolding clockOf
+  clock-near = let q = quarter-few (numberAt terms index) in rw (h .is) (omega (arith, q), omega (arith, q))

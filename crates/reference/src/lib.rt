@@ -1,16 +1,14 @@
 // The reference power T of a measure's quarters (document 01, 'Reference power T'): a numerator over one denominator D.
 ghost use mathlib.Core.Path.{_≡_};
-ghost use mathlib.Core.Bool.{true};
-ghost use Prim.Native.Nat.{ℕ, _+_, _≤_, _<_};
+ghost use Prim.Native.Nat.{_≤_, _<_};
 ghost use lib.ListN.{length};
 ghost use Rattle.rules.specs.Numbers.{orZero, smaller};
 ghost use Rattle.rules.specs.Archive.{byteAt, fieldAt};
-ghost use Rattle.rules.specs.Terms.{Quarter, quarterOf};
+ghost use Rattle.rules.specs.Terms.{Quarter, monthOf, quarterOfDayOf, quarterOf};
 ghost use Rattle.rules.specs.Reference as book;
 ghost use Rattle.terms.specs.Meanings.{meaning};
-ghost use Rattle.calendar.specs.Clocks.{Begins};
 ghost use Rattle.reference.specs.References.{Bounded, Held, Means, Divides, ReferredTo};
-ghost use Rattle.reference.specs.Times.{monthAt, quarterOfDayAt, timeOf};
+ghost use Rattle.reference.specs.Times.{timingOf, Shows};
 use calendar::Clock;
 use curve::Curve;
 use record::Power;
@@ -55,37 +53,42 @@ fn byte_at(r: &[u8], at: usize) -> u64
     r[at] as u64
 }
 
-fn month_of(clock: Clock, r: &[u8]) -> u64
+// Of a measure without a date: the quarter's own.
+fn month_of(terms: Terms, index: u64, r: &[u8]) -> u64
+    requires { ⌜ meaning terms .first ≡ 0 ⌝ }
     requires { ⌜ length (now r) ≡ 32 ⌝ }
-    ensures { λ n. ⌜ n ≡ monthAt clock (now (r .entry)) ⌝ }
+    ensures { λ n. ⌜ n ≡ monthOf (meaning terms) index (now (r .entry)) ⌝ }
 {
-    if !clock.dated {
-        return byte_at(r, 1);
-    }
-    clock.date.month
+    byte_at(r, 1)
 }
 
-fn quarter_of_day_of(clock: Clock, index: u64, r: &[u8]) -> u64
-    requires { ⌜ (clock .dated ≡ true → (index ≤ clock .until) × (clock .until ≤ index + 96)) ⌝ }
+fn quarter_of_day_of(terms: Terms, index: u64, r: &[u8]) -> u64
+    requires { ⌜ meaning terms .first ≡ 0 ⌝ }
     requires { ⌜ length (now r) ≡ 32 ⌝ }
-    ensures { λ n. ⌜ n ≡ quarterOfDayAt clock index (now (r .entry)) ⌝ }
+    ensures { λ n. ⌜ n ≡ quarterOfDayOf (meaning terms) index (now (r .entry)) ⌝ }
 {
-    if !clock.dated {
-        return byte_at(r, 2);
-    }
-    96 - (clock.until - index)
+    byte_at(r, 2)
 }
 
-// The clock of the measure's first quarter, where T is by the time: solar Pauschal alone reads it.
-pub fn starts(reference: Reference, terms: Terms) -> Clock
-    ensures { λ c. ⌜ Begins (timeOf reference (meaning terms)) c ⌝ }
+// What a quarter's T is found by beside the reference: its own bytes, or the date.
+pub enum Timing {
+    Own,
+    // solar Pauschal with a date, and no other: Pn
+    Dated(Watt),
+}
+
+pub fn timing_of(reference: Reference, terms: Terms) -> Timing
+    ensures { λ t. ⌜ t ≡ timingOf reference (meaning terms) ⌝ }
 {
+    if terms.first.0 == 0 {
+        return Timing::Own;
+    }
     match reference {
-        Reference::OnCurve(_, _, _, _) => calendar::UNDATED,
-        Reference::LastMeasured(_) => calendar::UNDATED,
-        Reference::OnIrradiance(_, _) => calendar::UNDATED,
-        Reference::ByFactor(_) => calendar::clock_of(terms.first),
-        Reference::AsPlanned => calendar::UNDATED,
+        Reference::OnCurve(_, _, _, _) => Timing::Own,
+        Reference::LastMeasured(_) => Timing::Own,
+        Reference::OnIrradiance(_, _) => Timing::Own,
+        Reference::ByFactor(pn) => Timing::Dated(pn),
+        Reference::AsPlanned => Timing::Own,
     }
 }
 
@@ -132,6 +135,14 @@ fn on_irradiance(a: Watt, b: Irradiance, r: &[u8]) -> Numerator
 }
 
 // Solar Pauschal: Pn × factor.
+fn times_factor(pn: Watt, month: u64, quarter: u64) -> i64
+    requires { ⌜ Bounded (Reference.ByFactor pn) ⌝ }
+    requires { ⌜ (1 ≤ month) × (month ≤ 12) × (quarter ≤ 95) ⌝ }
+    ensures { λ t. ⌜ ((q : Quarter) → month ≡ q .month → quarter ≡ q .quarterOfDay → ReferredTo (book.byFactor (orZero (pn .0))) q (Numerator.Of t)) ⌝ }
+{
+    pn.0 * factor::plant_factor(month, quarter) as i64
+}
+
 fn by_factor(pn: Watt, month: u64, quarter: u64) -> Numerator
     requires { ⌜ Bounded (Reference.ByFactor pn) ⌝ }
     ensures { λ n. ⌜ ((q : Quarter) → month ≡ q .month → quarter ≡ q .quarterOfDay → ReferredTo (book.byFactor (orZero (pn .0))) q n) ⌝ }
@@ -145,7 +156,7 @@ fn by_factor(pn: Watt, month: u64, quarter: u64) -> Numerator
     if 95 < quarter {
         return Numerator::OutOfRange;
     }
-    Numerator::Of(pn.0 * factor::plant_factor(month, quarter) as i64)
+    Numerator::Of(times_factor(pn, month, quarter))
 }
 
 // Other Spitz: the planned power.
@@ -159,17 +170,16 @@ fn as_planned(r: &[u8]) -> Numerator
     Numerator::Of(planned.0)
 }
 
-// Of a measure's quarter, from its index along the chain, its clock, and its own 32 bytes.
+// Of a measure's quarter, from its index along the chain and its own 32 bytes.
 pub fn numerator_of(
     reference: Reference,
     powers: &[u32],
     terms: Terms,
     index: u64,
-    clock: Clock,
     r: &[u8],
 ) -> Numerator
     requires { ⌜ Held reference (now powers) ⌝ }
-    requires { ⌜ clock ≡ timeOf reference (meaning terms) index ⌝ }
+    requires { ⌜ Timing.Own ≡ timingOf reference (meaning terms) ⌝ }
     requires { ⌜ length (now r) ≡ 32 ⌝ }
     ensures { λ n. ⌜ ((ref : book.Reference) → Means reference (now (powers .entry)) ref
         → ReferredTo ref (quarterOf (meaning terms) index (now (r .entry))) n) ⌝ }
@@ -180,9 +190,19 @@ pub fn numerator_of(
         Reference::OnIrradiance(a, b) => on_irradiance(a, b, r),
         Reference::ByFactor(pn) => by_factor(
             pn,
-            month_of(clock, r),
-            quarter_of_day_of(clock, index, r),
+            month_of(terms, index, r),
+            quarter_of_day_of(terms, index, r),
         ),
         Reference::AsPlanned => as_planned(r),
     }
+}
+
+// Of a dated measure's quarter, solar Pauschal: by its clock, which is always in range.
+pub fn numerator_on(pn: Watt, terms: Terms, index: u64, clock: Clock, r: &[u8]) -> i64
+    requires { ⌜ Bounded (Reference.ByFactor pn) ⌝ }
+    requires { ⌜ Shows (meaning terms) index clock ⌝ }
+    ensures { λ t. ⌜ ReferredTo (book.byFactor (orZero (pn .0))) (quarterOf (meaning terms) index (now (r .entry))) (Numerator.Of t) ⌝ }
+{
+    let date = clock.date;
+    times_factor(pn, date.month, 96 - (clock.until - index))
 }

@@ -1,14 +1,10 @@
 -- `reference::numerator_of` meets its contract.
-use mathlib.Core.Path.{_≡_, refl, sym, _∙_, ap, subst}
-use mathlib.Core.Bool.{true}
-use Prim.Native.Nat.{_+_, _≤_}
+use mathlib.Core.Path.{refl}
 use Rattle.rules.specs.Terms.{quarterOf}
 use Rattle.terms.specs.Meanings.{meaning}
 use Rattle.units.proofs.Laws.{back}
 use Rattle.reference.proofs.References.{bounded-told, held-told}
-use Rattle.calendar.specs.declared.Clock.{Clock}
-use Rattle.reference.specs.Times.{monthAt, quarterOfDayAt}
-use Rattle.reference.proofs.Times.{month-at, quarter-of-day-at, until-near, time-by-factor}
+use Rattle.reference.proofs.Times.{own-undated}
 use Rattle.reference.proofs.Referred.{referred-told, referred-as, last-referred}
 use Rattle.reference.specs.declared.Numerator.the-variants as over
 use borrow.Author.Needs.{needs}
@@ -38,16 +34,16 @@ enum-known-reference-4 : tie.Need-enum-known-reference-4
 enum-known-reference-4 c = search needs
 
 month-of-requires : tie.Need-month-of-requires
-month-of-requires c κs = search needs
+month-of-requires c κs =
+    let at-reference4 = c .before in
+    let s = at-reference4 .before .before .before .before in
+    (own-undated (meaning (s .args .terms)) (at-reference4 .reference4 .given .1) (s .pre .1 .0), s .pre .1 .1)
 
 quarter-of-day-of-requires : tie.Need-quarter-of-day-of-requires
 quarter-of-day-of-requires c κs =
     let at-reference4 = c .before .before in
     let s = at-reference4 .before .before .before .before in
-    let terms = meaning (s .args .terms) in
-    let index = s .args .index in
-    let clock = time-by-factor terms index (at-reference4 .reference4 .given .1) (s .pre .1 .0) in
-    (subst (λ (k : Clock). k .dated ≡ true → (index ≤ k .until) × (k .until ≤ index + 96)) (sym clock) (until-near terms index), s .pre .1 .1)
+    (own-undated (meaning (s .args .terms)) (at-reference4 .reference4 .given .1) (s .pre .1 .0), s .pre .1 .1)
 
 by-factor-requires : tie.Need-by-factor-requires
 by-factor-requires c κs =
@@ -93,15 +89,9 @@ returns-4 c =
     let at-month-of = c .before .before in
     let at-reference4 = at-month-of .before .before in
     let s = at-reference4 .before .before .before .before in
-    let terms = meaning (s .args .terms) in
-    let index = s .args .index in
-    let r = s .args .r .now in
-    let clock = time-by-factor terms index (at-reference4 .reference4 .given .1) (s .pre .1 .0) in
-    let q = quarterOf terms index r in
+    let q = quarterOf (meaning (s .args .terms)) (s .args .index) (s .args .r .now) in
     λ ref. referred-told (at-reference4 .reference4 .given .1) (s .args .powers .now) ref q (c .by-factor .result)
-    (λ m. referred-as ref q (c .by-factor .result) (m .is) (c .by-factor .ensures q
-    (at-month-of .month-of .ensures ∙ ap (λ (k : Clock). monthAt k r) clock ∙ month-at terms index r)
-    (c .before .quarter-of-day-of .ensures ∙ ap (λ (k : Clock). quarterOfDayAt k index r) clock ∙ quarter-of-day-at terms index r)))
+    (λ m. referred-as ref q (c .by-factor .result) (m .is) (c .by-factor .ensures q (at-month-of .month-of .ensures) (c .before .quarter-of-day-of .ensures)))
 
 returns-5 : tie.Need-returns-5
 unfolding quarterOf
