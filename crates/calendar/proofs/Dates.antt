@@ -11,7 +11,7 @@ use lib.ListN.{drop}
 use Rattle.rules.specs.Numbers.{sum}
 use Rattle.rules.specs.declared.Date.{Date}
 use Rattle.rules.specs.Calendar.{isLeapYear, yearLength, monthLengths, monthLength, dated, inMonths, inYear, daysOfYears, dateOf, nextFirst, dayAfter}
-use Rattle.rules.proofs.Calendar.{Later, months-later, months-sum, year-long, years-more, years-days, in-year}
+use Rattle.rules.proofs.Calendar.{Later, months-later, months-sum, year-long, years-more, years-days, in-year, after-month-end}
 use Rattle.calendar.specs.Clocks.{Passed}
 
 -- ---- leap years
@@ -175,18 +175,13 @@ module _ (day years : ℕ) (some : 1 ≤ day) (passed : Passed (day - 1) years) 
         let e : daysOfYears years 2000 + (day - 1 - days + 1) ≡ day = omega (arith, passed .whole) in
         sym (in-year years (day - 1 - days + 1) (day-of-year .0) (day-of-year .1)) ∙ ap dateOf e
 
--- ---- the day after
+-- ---- the day after the last of a month
 
-module _ (d : Date) where
-  pub after-in-month : d .day < monthLength (d .year) (d .month) → dated (d .year) (d .month) (d .day + 1) ≡ dayAfter d
-  unfolding dayAfter
-  after-in-month k = rw (lt-ltb (d .day) (monthLength (d .year) (d .month)) k)
+module _ (d : Date) (last : monthLength (d .year) (d .month) ≤ d .day) where
+  pub after-in-year : d .month < 12 → dated (d .year) (d .month + 1) 1 ≡ dayAfter d
+  unfolding nextFirst
+  after-in-year k = rw (after-month-end d last, lt-ltb (d .month) 12 k)
 
-  module _ (last : monthLength (d .year) (d .month) ≤ d .day) where
-    pub after-in-year : d .month < 12 → dated (d .year) (d .month + 1) 1 ≡ dayAfter d
-    unfolding dayAfter nextFirst
-    after-in-year k = rw (le-ltb (d .day) (monthLength (d .year) (d .month)) last, lt-ltb (d .month) 12 k)
-
-    pub after-in-december : 12 ≤ d .month → dated (d .year + 1) 1 1 ≡ dayAfter d
-    unfolding dayAfter nextFirst
-    after-in-december k = rw (le-ltb (d .day) (monthLength (d .year) (d .month)) last, le-ltb (d .month) 12 k)
+  pub after-in-december : 12 ≤ d .month → dated (d .year + 1) 1 1 ≡ dayAfter d
+  unfolding nextFirst
+  after-in-december k = rw (after-month-end d last, le-ltb (d .month) 12 k)

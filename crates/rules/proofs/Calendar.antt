@@ -256,6 +256,14 @@ next-first-is-date d h = by (ltb (d .month) 12) refl
         let l = month-long (d .year + 1) 1 (omega arith) (omega arith) in
         record { since = omega (arith, h .since); month-some = omega arith; month-few = omega arith; day-some = omega arith; day-few = omega arith }
 
+pub after-in-month : (d : Date) → d .day < monthLength (d .year) (d .month) → dayAfter d ≡ dated (d .year) (d .month) (d .day + 1)
+unfolding dayAfter
+after-in-month d k = rw (lt-ltb (d .day) (monthLength (d .year) (d .month)) k)
+
+pub after-month-end : (d : Date) → monthLength (d .year) (d .month) ≤ d .day → dayAfter d ≡ nextFirst d
+unfolding dayAfter
+after-month-end d k = rw (le-ltb (d .day) (monthLength (d .year) (d .month)) k)
+
 after-is-date : (d : Date) → IsDate d → IsDate (dayAfter d)
 unfolding dayAfter
 after-is-date d h = by (ltb (d .day) (monthLength (d .year) (d .month))) refl (next-first-is-date d h)

@@ -4,7 +4,7 @@ use mathlib.Core.Bool.{Bool, true, false, cond, not, _&&_}
 use mathlib.Core.List.{List, [], _∷_}
 use Prim.Native.Nat.{ℕ, zero, suc, _+_, _-_, _≤_, _<_}
 use native.Mathlib.Omega.{arith}
-use borrow.Author.Tests.{lt-ltb, le-ltb, not-true}
+use borrow.Author.Tests.{not-true}
 use lib.Dec.{leb, ltb}
 use lib.ListN.{length, getD}
 use Rattle.rules.specs.Outcome.{given, _>>_, require}
@@ -14,17 +14,9 @@ use Rattle.rules.specs.Calendar.{isWorkingDay, daysFrom, workingDays, ne
 use Rattle.rules.specs.Demands.{IsDeliveryDay, DeliveryDays}
 use Rattle.rules.proofs.Inversion.{Holds, holds-require, holds-given}
 use Rattle.rules.proofs.Sound.{both}
-use Rattle.rules.proofs.Calendar.{Order, before, same, behind, order, date-next, is-date, day-some}
+use Rattle.rules.proofs.Calendar.{Order, before, same, behind, order, date-next, after-in-month, after-month-end, is-date, day-some}
 
 -- ---- the days of a month
-
-after-in-month : (d : Date) → d .day < monthLength (d .year) (d .month) → dayAfter d ≡ dated (d .year) (d .month) (d .day + 1)
-unfolding dayAfter
-after-in-month d k = rw (lt-ltb (d .day) (monthLength (d .year) (d .month)) k)
-
-after-last : (d : Date) → monthLength (d .year) (d .month) ≤ d .day → dayAfter d ≡ nextFirst d
-unfolding dayAfter
-after-last d k = rw (le-ltb (d .day) (monthLength (d .year) (d .month)) k)
 
 -- so many days later in the same month
 module _ (day : ℕ) (some : 1 ≤ day) where
@@ -51,7 +43,7 @@ module _ (day : ℕ) (some : 1 ≤ day) where
       let left = length - dateOf day .day in
       let e : dateOf day .day + left ≡ length = omega (arith, h .day-few) in
       let r : dateOf (day + left) ≡ at left = in-month left (omega (arith, e)) in
-      date-next (day + left) (omega arith) ∙ ap dayAfter r ∙ after-last (at left) (omega (arith, e)) ∙ ap (λ (n : ℕ). nextFirst (dated (dateOf day .year) (dateOf day .month) n)) e ∙ next-first-of day
+      date-next (day + left) (omega arith) ∙ ap dayAfter r ∙ after-month-end (at left) (omega (arith, e)) ∙ ap (λ (n : ℕ). nextFirst (dated (dateOf day .year) (dateOf day .month) n)) e ∙ next-first-of day
 
 -- ---- the k-th of those that pass a test, counted from 0
 

@@ -1,7 +1,9 @@
 -- `calendar::day_after` meets its contract.
+use mathlib.Core.Path.{sym}
 use native.Mathlib.Omega.{arith}
 use borrow.Author.Needs.{needs}
-use Rattle.calendar.proofs.Dates.{after-in-month, after-in-year, after-in-december}
+use Rattle.rules.proofs.Calendar.{after-in-month}
+use Rattle.calendar.proofs.Dates.{after-in-year, after-in-december}
 use Rattle.calendar.proofs.day_after.Statement.{statement}
 use Rattle.calendar.proofs.day_after.Tie as tie
 
@@ -14,7 +16,7 @@ add-t7 c = search needs
 returns : tie.Need-returns
 returns c =
     let l = c .before in
-    after-in-month (l .before .args .date) (omega (arith, c .if1 .taken, l .month-length .ensures))
+    sym (after-in-month (l .before .args .date) (omega (arith, c .if1 .taken, l .month-length .ensures)))
 
 add-t8 : tie.Need-add-t8
 add-t8 c = search needs

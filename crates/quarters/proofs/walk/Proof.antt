@@ -1,5 +1,5 @@
 -- `quarters::walk` meets its contract.
-use mathlib.Core.Path.{_≡_, sym, _∙_, subst}
+use mathlib.Core.Path.{sym, _∙_}
 use borrow.Author.Needs.{needs}
 use Rattle.terms.specs.Meanings.{meaning}
 use Rattle.reference.proofs.Times.{dated-by-factor}
