@@ -51,7 +51,7 @@ pub fn exact_of(
     r: &[u8],
 ) -> Exact
     requires { ⌜ Ready reference d (now powers) (now r) ⌝ }
-    requires { ⌜ Timing.Own ≡ timingOf reference (meaning terms) ⌝ }
+    requires { ⌜ Timing.NoDate ≡ timingOf reference (meaning terms) ⌝ }
     ensures { λ x. ⌜ ((ref : book.Reference) → Means reference (now (powers .entry)) ref
         → x ≡ quarterAnswer (meaning terms) ref (quarterOf (meaning terms) index (now (r .entry)))) ⌝ }
 {
@@ -66,7 +66,7 @@ pub fn exact_of(
 }
 
 // Of a dated measure's quarter, solar Pauschal: by its clock.
-pub fn exact_on(terms: Terms, index: u64, clock: Clock, pn: Watt, d: u64, r: &[u8]) -> Exact
+pub fn exact_by_date(terms: Terms, index: u64, clock: Clock, pn: Watt, d: u64, r: &[u8]) -> Exact
     requires { ⌜ Ready (Reference.ByFactor pn) d [] (now r) ⌝ }
     requires { ⌜ Shows (meaning terms) index clock ⌝ }
     ensures { λ x. ⌜ x ≡ quarterAnswer (meaning terms) (book.byFactor (orZero (pn .0))) (quarterOf (meaning terms) index (now (r .entry))) ⌝ }
@@ -78,7 +78,7 @@ pub fn exact_on(terms: Terms, index: u64, clock: Clock, pn: Watt, d: u64, r: &[u
     Exact::Of(magnitude(
         direction,
         d,
-        reference::numerator_on(pn, terms, index, clock, r),
+        reference::numerator_by_date(pn, terms, index, clock, r),
         l,
     ))
 }

@@ -45,7 +45,7 @@ use Rattle.exact.specs.declared.Exact.the-variants as exact
 use Rattle.exact.specs.Exacts.{exactAnswer, quarterAnswer}
 use Rattle.quarters.specs.declared.Walked.{Walked}
 use Rattle.quarters.specs.declared.Walked.the-variants as walked
-use Rattle.quarters.specs.Walks.{isInRange, entered, endOf, WalkedBy, Walks}
+use Rattle.quarters.specs.Walks.{isInRange, entered, answerAtEnd, WalkedBy, Walks}
 
 -- the quarters met so far, whether every needed field of them is in range, and the sheet
 pub record Gathered : Type 0 where
@@ -191,8 +191,8 @@ module _ (archive : List ℕ) (place : settle.Place) (basis : Basis) where
                 (rw (← size) (sum-low _ _ (quartersRead place (h .entries)) (all-weaker _ (λ q e. exact-small (place .terms) (basis .reference) q bounded e) (all-passed (readable (place .terms) (basis .reference)) _ (sym (h .fine) ∙ f))))));
           }
 
-    walked-ended : bounds.Bounded (basis .reference) → WalkedBy archive place basis (g .sheet) (endOf (place .terms) (g .count) (g .fine))
-    unfolding endOf
+    walked-ended : bounds.Bounded (basis .reference) → WalkedBy archive place basis (g .sheet) (answerAtEnd (place .terms) (g .count) (g .fine))
+    unfolding answerAtEnd
     walked-ended bounded = by (leb 1 (g .count) && leb (g .count) 2976) (g .fine) (datesAllowed (place .terms) (g .count)) refl refl refl
       where
         by : (counted fine allowed : Bool) → (leb 1 (g .count) && leb (g .count) 2976) ≡ counted → g .fine ≡ fine → datesAllowed (place .terms) (g .count) ≡ allowed
@@ -206,22 +206,22 @@ module _ (archive : List ℕ) (place : settle.Place) (basis : Basis) where
 -- ---- at the chain's end, by the code's tests
 
 module _ (terms : Terms) (count : ℕ) (fine : Bool) where
-  pub end-uncounted : (leb 1 count && leb count 2976) ≡ false → walked.Refused badCount ≡ endOf terms count fine
-  unfolding endOf
+  pub end-uncounted : (leb 1 count && leb count 2976) ≡ false → walked.Refused badCount ≡ answerAtEnd terms count fine
+  unfolding answerAtEnd
   end-uncounted c = rw c
 
   module _ (counted : (leb 1 count && leb count 2976) ≡ true) where
-    pub end-unreadable : fine ≡ false → walked.Refused outOfRange ≡ endOf terms count fine
-    unfolding endOf
+    pub end-unreadable : fine ≡ false → walked.Refused outOfRange ≡ answerAtEnd terms count fine
+    unfolding answerAtEnd
     end-unreadable f = rw (counted, f)
 
     module _ (readable : fine ≡ true) where
-      pub end-late : datesAllowed terms count ≡ false → walked.Refused notInCalendar ≡ endOf terms count fine
-      unfolding endOf
+      pub end-late : datesAllowed terms count ≡ false → walked.Refused notInCalendar ≡ answerAtEnd terms count fine
+      unfolding answerAtEnd
       end-late l = rw (counted, readable, l)
 
-      pub end-given : datesAllowed terms count ≡ true → walked.Count count ≡ endOf terms count fine
-      unfolding endOf
+      pub end-given : datesAllowed terms count ≡ true → walked.Count count ≡ answerAtEnd terms count fine
+      unfolding answerAtEnd
       end-given l = rw (counted, readable, l)
 
 -- ---- the walk of the code
@@ -274,7 +274,7 @@ module _ {archive powers start : List ℕ} {reference : Reference} {first last l
         ended (meaning (place .terms)) (basis .reference) _ start g (h .size)
         (rw starts at (walk-ends _ archive (place .used) quarterKind (h .walking (basis .reference) m) end))
 
-    pub walks-ended : {answer : Walked} → answer ≡ endOf (meaning (place .terms)) (g .count) (g .fine) → Bounded reference → Walks archive place reference powers (g .sheet) answer
+    pub walks-ended : {answer : Walked} → answer ≡ answerAtEnd (meaning (place .terms)) (g .count) (g .fine) → Bounded reference → Walks archive place reference powers (g .sheet) answer
     walks-ended e bounded = record {
       by = λ basis m.
           rw e (walked-ended archive (meant archive place) basis g (ends basis m) (means-bounded reference powers (basis .reference) m bounded));

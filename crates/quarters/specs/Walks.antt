@@ -39,8 +39,8 @@ walkedAnswer (refused n) = walked.Refused n
 walkedAnswer (given quarters) = walked.Count (length quarters)
 
 -- what the chain's end says of so many quarters, by whether every needed field of them is in range
-unfoldable pub endOf : Terms → ℕ → Bool → Walked
-endOf terms count fine =
+unfoldable pub answerAtEnd : Terms → ℕ → Bool → Walked
+answerAtEnd terms count fine =
     cond (leb 1 count && leb count 2976)
     (cond fine (cond (settle.datesAllowed terms count) (walked.Count count) (walked.Refused notInCalendar)) (walked.Refused outOfRange))
     (walked.Refused badCount)

@@ -1,5 +1,5 @@
-// One walk over a measure's quarters (document 01, 'Calls on the archive'): each is tested and counted, and its exact magnitude is
-// written into a sheet.
+// One walk over a measure's quarters (documents 01, 'Calls on the archive', and 02, 1): each is tested and counted, and its exact magnitude
+// is written into a sheet.
 ghost use mathlib.Core.Path.{_≡_};
 ghost use mathlib.Core.Bool.{_&&_};
 ghost use mathlib.Core.List.{[]};
@@ -10,7 +10,7 @@ ghost use Rattle.terms.specs.Meanings.{meaning};
 ghost use Rattle.place.specs.Places.{Lies};
 ghost use Rattle.reference.specs.References.{Divided};
 ghost use Rattle.reference.specs.Times.{timingOf};
-ghost use Rattle.quarters.specs.Walks.{isInRange, entered, endOf, Walks};
+ghost use Rattle.quarters.specs.Walks.{isInRange, entered, answerAtEnd, Walks};
 use chains::Link;
 use exact::Exact;
 use place::Place;
@@ -58,8 +58,8 @@ pub enum Walked {
 }
 
 // At the chain's end: 8, then 9, then 18.
-fn ended(terms: Terms, count: usize, fine: bool) -> Walked
-    ensures { λ r. ⌜ r ≡ endOf (meaning terms) count fine ⌝ }
+fn answer_at_end(terms: Terms, count: usize, fine: bool) -> Walked
+    ensures { λ r. ⌜ r ≡ answerAtEnd (meaning terms) count fine ⌝ }
 {
     let counted = in_count_range(count);
     if !counted {
@@ -78,7 +78,7 @@ fn ended(terms: Terms, count: usize, fine: bool) -> Walked
 // there is tested and counted only.
 
 // Where T isn't found by the date.
-fn walk_own(
+fn walk_without_date(
     archive: &[u8],
     place: Place,
     reference: Reference,
@@ -88,7 +88,7 @@ fn walk_own(
 ) -> Walked
     requires { ⌜ Lies (now archive) place ⌝ }
     requires { ⌜ Divided reference d (now powers) ⌝ }
-    requires { ⌜ Timing.Own ≡ timingOf reference (meaning (place .terms)) ⌝ }
+    requires { ⌜ Timing.NoDate ≡ timingOf reference (meaning (place .terms)) ⌝ }
     ensures { λ r. ⌜ Walks (now (archive .entry)) place reference (now (powers .entry)) (now (sheet .exit)) r ⌝ }
 {
     let used = place.used;
@@ -111,11 +111,11 @@ fn walk_own(
         last = n;
         link = record::link_of(archive, n, 4);
     }
-    ended(terms, count, fine)
+    answer_at_end(terms, count, fine)
 }
 
-// Where it is, in solar Pauschal: a clock goes along.
-fn walk_dated(archive: &[u8], place: Place, pn: Watt, d: u64, sheet: &mut [u64]) -> Walked
+// Where T is found by the date, in solar Pauschal: a clock goes along.
+fn walk_by_date(archive: &[u8], place: Place, pn: Watt, d: u64, sheet: &mut [u64]) -> Walked
     requires { ⌜ Lies (now archive) place ⌝ }
     requires { ⌜ Divided (Reference.ByFactor pn) d [] ⌝ }
     requires { ⌜ 1 ≤ meaning (place .terms) .first ⌝ }
@@ -137,14 +137,14 @@ fn walk_dated(archive: &[u8], place: Place, pn: Watt, d: u64, sheet: &mut [u64])
         let i = n as usize;
         let index = count as u64;
         let r = &archive[32 * i..32 * i + 32];
-        let magnitude = exact::exact_on(terms, index, clock, pn, d, r);
+        let magnitude = exact::exact_by_date(terms, index, clock, pn, d, r);
         fine = enter(sheet, count, magnitude) & fine;
         count += 1;
         last = n;
         link = record::link_of(archive, n, 4);
         clock = calendar::after(clock, count as u64);
     }
-    ended(terms, count, fine)
+    answer_at_end(terms, count, fine)
 }
 
 // The quarters of a measure, with or without a clock; d is D.
@@ -162,7 +162,7 @@ pub fn walk(
 {
     let terms = place.terms;
     match reference::timing_of(reference, terms) {
-        Timing::Own => walk_own(archive, place, reference, d, powers, sheet),
-        Timing::Dated(pn) => walk_dated(archive, place, pn, d, sheet),
+        Timing::NoDate => walk_without_date(archive, place, reference, d, powers, sheet),
+        Timing::ByDate(pn) => walk_by_date(archive, place, pn, d, sheet),
     }
 }

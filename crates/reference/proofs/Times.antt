@@ -15,12 +15,12 @@ use Rattle.units.specs.declared.Watt.{Watt}
 use Rattle.reference.specs.declared.Reference.{Reference}
 use Rattle.reference.specs.declared.Reference.the-variants.{OnCurve, LastMeasured, OnIrradiance, ByFactor, AsPlanned}
 use Rattle.reference.specs.declared.Timing.{Timing}
-use Rattle.reference.specs.declared.Timing.the-variants.{Own, Dated}
+use Rattle.reference.specs.declared.Timing.the-variants.{NoDate, ByDate}
 use Rattle.reference.specs.Times.{timingOf, Shows}
 
 -- ---- by the date or not
 
-pub timing-undated : (reference : Reference) (terms : Terms) → terms .first ≡ 0 → Own ≡ timingOf reference terms
+pub timing-undated : (reference : Reference) (terms : Terms) → terms .first ≡ 0 → NoDate ≡ timingOf reference terms
 timing-undated (OnCurve a b pn curve) terms e = refl
 timing-undated (LastMeasured p0) terms e = refl
 timing-undated (OnIrradiance a b) terms e = refl
@@ -31,26 +31,26 @@ timing-undated AsPlanned terms e = refl
 pub timing-told : {reference x : Reference} {t : Timing} (terms : Terms) → reference ≡ x → t ≡ timingOf x terms → t ≡ timingOf reference terms
 timing-told terms told e = e ∙ ap (λ (r : Reference). timingOf r terms) (sym told)
 
-pub timing-dated : (pn : Watt) (terms : Terms) → (terms .first ≡ 0 → ⊥) → Dated pn ≡ timingOf (ByFactor pn) terms
+pub timing-dated : (pn : Watt) (terms : Terms) → (terms .first ≡ 0 → ⊥) → ByDate pn ≡ timingOf (ByFactor pn) terms
 timing-dated pn terms h = rw (ne-eqb (terms .first) 0 h)
 
 -- solar Pauschal by its own bytes has no date
-pub own-undated : {reference : Reference} {pn : Watt} (terms : Terms) → reference ≡ ByFactor pn → Own ≡ timingOf reference terms → terms .first ≡ 0
+pub own-undated : {reference : Reference} {pn : Watt} (terms : Terms) → reference ≡ ByFactor pn → NoDate ≡ timingOf reference terms → terms .first ≡ 0
 own-undated {reference} {pn} terms told e = by (eqb (terms .first) 0) refl (e ∙ ap (λ (r : Reference). timingOf r terms) told)
   where
-    by : (t : Bool) → eqb (terms .first) 0 ≡ t → Own ≡ cond t Own (Dated pn) → terms .first ≡ 0
+    by : (t : Bool) → eqb (terms .first) 0 ≡ t → NoDate ≡ cond t NoDate (ByDate pn) → terms .first ≡ 0
     by true k i = eqb-true (terms .first) 0 k
     by false k i = let z : _≡_ {A = ℕ} 0 1 = cc in absurd (omega arith)
 
 -- where the date is read, it is solar Pauschal and there is one
-pub dated-by-factor : (reference : Reference) {pn : Watt} (terms : Terms) → Dated pn ≡ timingOf reference terms
+pub dated-by-factor : (reference : Reference) {pn : Watt} (terms : Terms) → ByDate pn ≡ timingOf reference terms
     → (reference ≡ ByFactor pn) × (1 ≤ terms .first)
 dated-by-factor (OnCurve a b pn curve) terms e = let z : _≡_ {A = ℕ} 0 1 = cc in absurd (omega arith)
 dated-by-factor (LastMeasured p0) terms e = let z : _≡_ {A = ℕ} 0 1 = cc in absurd (omega arith)
 dated-by-factor (OnIrradiance a b) terms e = let z : _≡_ {A = ℕ} 0 1 = cc in absurd (omega arith)
 dated-by-factor (ByFactor p) {pn} terms e = by (eqb (terms .first) 0) refl e
   where
-    by : (t : Bool) → eqb (terms .first) 0 ≡ t → Dated pn ≡ cond t Own (Dated p) → (ByFactor p ≡ ByFactor pn) × (1 ≤ terms .first)
+    by : (t : Bool) → eqb (terms .first) 0 ≡ t → ByDate pn ≡ cond t NoDate (ByDate p) → (ByFactor p ≡ ByFactor pn) × (1 ≤ terms .first)
     by true k i = let z : _≡_ {A = ℕ} 0 1 = cc in absurd (omega arith)
     by false k i = let h = eqb-false (terms .first) 0 k in let s : pn ≡ p = cc in (ap ByFactor (sym s), omega (arith, h))
 dated-by-factor AsPlanned terms e = let z : _≡_ {A = ℕ} 0 1 = cc in absurd (omega arith)

@@ -1,4 +1,4 @@
--- What a quarter's T is found by: its own bytes or the date.
+-- Whether T goes by the date, and the clock of a quarter where it does.
 use Prim.Native.Nat.{ℕ, _≤_}
 use mathlib.Core.Path.{_≡_}
 use mathlib.Core.Bool.{cond}
@@ -9,15 +9,15 @@ use Rattle.calendar.specs.Clocks.{clockOf}
 use Rattle.reference.specs.declared.Reference.{Reference}
 use Rattle.reference.specs.declared.Reference.the-variants.{OnCurve, LastMeasured, OnIrradiance, ByFactor, AsPlanned}
 use Rattle.reference.specs.declared.Timing.{Timing}
-use Rattle.reference.specs.declared.Timing.the-variants.{Own, Dated}
+use Rattle.reference.specs.declared.Timing.the-variants.{NoDate, ByDate}
 
 -- solar Pauschal alone reads the date, where there is one
 abbrev pub timingOf : Reference → Terms → Timing
-timingOf (OnCurve a b pn curve) terms = Own
-timingOf (LastMeasured p0) terms = Own
-timingOf (OnIrradiance a b) terms = Own
-timingOf (ByFactor pn) terms = cond (eqb (terms .first) 0) Own (Dated pn)
-timingOf AsPlanned terms = Own
+timingOf (OnCurve a b pn curve) terms = NoDate
+timingOf (LastMeasured p0) terms = NoDate
+timingOf (OnIrradiance a b) terms = NoDate
+timingOf (ByFactor pn) terms = cond (eqb (terms .first) 0) NoDate (ByDate pn)
+timingOf AsPlanned terms = NoDate
 
 -- the clock of quarter `index`, counted from 0, of a dated measure
 pub record Shows (terms : Terms) (index : ℕ) (clock : Clock) : Type 0 where

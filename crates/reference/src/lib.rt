@@ -70,25 +70,25 @@ fn quarter_of_day_of(terms: Terms, index: u64, r: &[u8]) -> u64
     byte_at(r, 2)
 }
 
-// What a quarter's T is found by beside the reference: its own bytes, or the date.
+// Whether T goes by the date (document 02, 1): in solar Pauschal with a date, and nowhere else.
 pub enum Timing {
-    Own,
-    // solar Pauschal with a date, and no other: Pn
-    Dated(Watt),
+    NoDate,
+    // Pn
+    ByDate(Watt),
 }
 
 pub fn timing_of(reference: Reference, terms: Terms) -> Timing
     ensures { λ t. ⌜ t ≡ timingOf reference (meaning terms) ⌝ }
 {
     if terms.first.0 == 0 {
-        return Timing::Own;
+        return Timing::NoDate;
     }
     match reference {
-        Reference::OnCurve(_, _, _, _) => Timing::Own,
-        Reference::LastMeasured(_) => Timing::Own,
-        Reference::OnIrradiance(_, _) => Timing::Own,
-        Reference::ByFactor(pn) => Timing::Dated(pn),
-        Reference::AsPlanned => Timing::Own,
+        Reference::OnCurve(_, _, _, _) => Timing::NoDate,
+        Reference::LastMeasured(_) => Timing::NoDate,
+        Reference::OnIrradiance(_, _) => Timing::NoDate,
+        Reference::ByFactor(pn) => Timing::ByDate(pn),
+        Reference::AsPlanned => Timing::NoDate,
     }
 }
 
@@ -179,7 +179,7 @@ pub fn numerator_of(
     r: &[u8],
 ) -> Numerator
     requires { ⌜ Held reference (now powers) ⌝ }
-    requires { ⌜ Timing.Own ≡ timingOf reference (meaning terms) ⌝ }
+    requires { ⌜ Timing.NoDate ≡ timingOf reference (meaning terms) ⌝ }
     requires { ⌜ length (now r) ≡ 32 ⌝ }
     ensures { λ n. ⌜ ((ref : book.Reference) → Means reference (now (powers .entry)) ref
         → ReferredTo ref (quarterOf (meaning terms) index (now (r .entry))) n) ⌝ }
@@ -198,7 +198,7 @@ pub fn numerator_of(
 }
 
 // Of a dated measure's quarter, solar Pauschal: by its clock, which is always in range.
-pub fn numerator_on(pn: Watt, terms: Terms, index: u64, clock: Clock, r: &[u8]) -> i64
+pub fn numerator_by_date(pn: Watt, terms: Terms, index: u64, clock: Clock, r: &[u8]) -> i64
     requires { ⌜ Bounded (Reference.ByFactor pn) ⌝ }
     requires { ⌜ Shows (meaning terms) index clock ⌝ }
     ensures { λ t. ⌜ ReferredTo (book.byFactor (orZero (pn .0))) (quarterOf (meaning terms) index (now (r .entry))) (Numerator.Of t) ⌝ }

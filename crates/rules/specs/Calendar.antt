@@ -47,7 +47,7 @@ abbrev pub inYears : ℕ → ℕ → ℕ → Date
 inYears zero year day = inYear year day
 inYears (suc years) year day = cond (leb day (yearLength year)) (inYear year day) (inYears years (year + 1) (day - yearLength year))
 
--- a year has more than one day, so there are no more years than days
+-- the date of a day number: the years from 2000 on are passed; there are no more of them than days
 unfoldable pub dateOf : ℕ → Date
 dateOf day = inYears day 2000 day
 
@@ -95,13 +95,15 @@ isMondayToFriday sunday = false
 
 -- ---- quarter numbers: 1 is 1 January 2000, 0:00, and a day has 96
 
+-- the number of a quarter's day
 unfoldable pub dayOf : ℕ → ℕ
 dayOf quarter = (quarter - 1) / 96 + 1
 
+-- a quarter's place in its day, counted from 0
 unfoldable pub quarterOfDay : ℕ → ℕ
 quarterOfDay quarter = (quarter - 1) % 96
 
--- 31 December 2099, 23:45
+-- the last allowed quarter: 31 December 2099, 23:45
 abbrev pub lastQuarter : ℕ
 lastQuarter = 3506400
 

@@ -171,7 +171,8 @@ limitReadable fixed measured limit = isPower measured
 abbrev pub readable : Terms → Reference → Quarter → Bool
 readable terms reference q = limitReadable (terms .execution) (q .measured) (q .limit) && referenceReadable reference q
 
--- the first and the last of so many quarters aren't past the calendar's end; a measure without a date has none to test
+-- what refusal 18 tests: the first and the last of so many quarters aren't past the calendar's end; a measure without a date has none to test
+-- (02, 1)
 unfoldable pub datesAllowed : Terms → ℕ → Bool
 datesAllowed terms count = eqb (terms .first) 0 || (leb (numberAt terms 0) lastQuarter && leb (numberAt terms (count - 1)) lastQuarter)
 

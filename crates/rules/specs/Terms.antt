@@ -64,7 +64,7 @@ directionOf measure = cond (eqb (byteAt measure 1) 1) positive negative
 abbrev pub executionOf : List ℕ → Execution
 executionOf measure = cond (eqb (byteAt measure 2) 1) requested (cond (eqb (byteAt measure 2) 2) tolerated fixed)
 
--- bytes 16-19: the number of the first quarter; zero for a measure without a date (02, 1)
+-- bytes 16-19, unsigned as links are: the number of the first quarter; zero for a measure without a date (02, 1)
 abbrev pub firstNumber : List ℕ → ℕ
 firstNumber measure = linkAt measure 16
 
@@ -133,7 +133,8 @@ beforeOf r = record { measured = fieldAt r 8; weather = fieldAt r 16 }
 abbrev pub numberAt : Terms → ℕ → ℕ
 numberAt terms index = terms .first + index
 
--- month 1-12 and quarter of the day 0-95, in UTC+1, of a measure's quarter: zero in the measure keeps the quarter's own bytes, 1 and 2
+-- month 1-12 and quarter of the day 0-95, in UTC+1, of a measure's quarter: by the calendar; without a date the quarter's own bytes, 1 and 2,
+-- are kept (02, 1)
 unfoldable pub monthOf : Terms → ℕ → List ℕ → ℕ
 monthOf terms index r = cond (eqb (terms .first) 0) (byteAt r 1) (dateOf (dayOf (numberAt terms index)) .month)
 

@@ -13,8 +13,8 @@ timing-of-requires c κs = search needs
 enum-told : tie.Need-enum-told
 enum-told c = search needs
 
-walk-own-requires : tie.Need-walk-own-requires
-walk-own-requires c κs =
+walk-without-date-requires : tie.Need-walk-without-date-requires
+walk-without-date-requires c κs =
     let told = c .before in
     let t = told .before .before in
     let p = t .before .before .before .before .before .pre in
@@ -23,8 +23,8 @@ walk-own-requires c κs =
 enum-known-pn : tie.Need-enum-known-pn
 enum-known-pn c = search needs
 
-walk-dated-requires : tie.Need-walk-dated-requires
-walk-dated-requires c κs =
+walk-by-date-requires : tie.Need-walk-by-date-requires
+walk-by-date-requires c κs =
     let told = c .before .before in
     let t = told .before .before in
     let s = t .before .before .before .before .before in
@@ -47,7 +47,7 @@ returns-2 c =
     let t = told .before .before in
     let s = t .before .before .before .before .before in
     let dated = dated-by-factor (s .args .reference) (meaning (s .args .place .terms)) (sym (told .pn .given .1) ∙ t .timing-of .ensures) in
-    walks-by-factor (dated .0) (w .walk-dated .ensures)
+    walks-by-factor (dated .0) (w .walk-by-date .ensures)
 
 pub walk-spec : {M : Type 1} → statement M
 walk-spec =
@@ -55,9 +55,9 @@ walk-spec =
     (tie.spec
     timing-of-requires
     enum-told
-    walk-own-requires
+    walk-without-date-requires
     enum-known-pn
-    walk-dated-requires
+    walk-by-date-requires
     same-length
     returns
     same-length-2

@@ -1,11 +1,11 @@
--- `reference::numerator_on` meets its contract.
+-- `reference::numerator_by_date` meets its contract.
 use native.Mathlib.Omega.{arith}
 use Rattle.rules.specs.Terms.{quarterOf}
 use Rattle.terms.specs.Meanings.{meaning}
 use Rattle.reference.proofs.Times.{clock-month, clock-quarter, clock-month-near, clock-near}
 use Rattle.reference.proofs.Referred.{referred-held}
-use Rattle.reference.proofs.numerator_on.Statement.{statement}
-use Rattle.reference.proofs.numerator_on.Tie as tie
+use Rattle.reference.proofs.numerator_by_date.Statement.{statement}
+use Rattle.reference.proofs.numerator_by_date.Tie as tie
 
 sub-times-factor : tie.Need-sub-times-factor
 sub-times-factor c = omega (arith, clock-near (c .before .before .before .pre .1))
@@ -29,5 +29,5 @@ returns c =
     let q = quarterOf terms index r in
     referred-held _ q (c .times-factor .result) (c .times-factor .ok) (c .times-factor .ensures q (clock-month terms index r (s .pre .1)) (clock-quarter terms index r (s .pre .1)))
 
-pub numerator-on-spec : {M : Type 1} → statement M
-numerator-on-spec = tie.close (tie.spec sub-times-factor sub-times-factor-2 times-factor-requires returns)
+pub numerator-by-date-spec : {M : Type 1} → statement M
+numerator-by-date-spec = tie.close (tie.spec sub-times-factor sub-times-factor-2 times-factor-requires returns)

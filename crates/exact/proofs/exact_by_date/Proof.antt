@@ -1,4 +1,4 @@
--- `exact::exact_on` meets its contract.
+-- `exact::exact_by_date` meets its contract.
 use mathlib.Core.Path.{refl, sym, ap, subst, _∙_}
 use mathlib.Core.List.{[]}
 use Prim.Native.Nat.{_≤_}
@@ -12,8 +12,8 @@ use Rattle.units.proofs.Laws.{back}
 use Rattle.terms.specs.Meanings.{meaning}
 use Rattle.exact.proofs.Exacts.{exact-unlimited, limited-small, referred-small, exact-is}
 use borrow.Author.Needs.{needs}
-use Rattle.exact.proofs.exact_on.Statement.{statement}
-use Rattle.exact.proofs.exact_on.Tie as tie
+use Rattle.exact.proofs.exact_by_date.Statement.{statement}
+use Rattle.exact.proofs.exact_by_date.Tie as tie
 
 limit-of-requires : tie.Need-limit-of-requires
 limit-of-requires c κs = search needs
@@ -32,8 +32,8 @@ returns c =
     let q = quarterOf (meaning (a .terms)) (a .index) (a .r .now) in
     exact-unlimited (meaning (a .terms)) (book.byFactor (orZero (a .pn .0))) q (c .enum-told .given .1) (at-limit-of .limit-of .ensures)
 
-numerator-on-requires : tie.Need-numerator-on-requires
-numerator-on-requires c κs =
+numerator-by-date-requires : tie.Need-numerator-by-date-requires
+numerator-by-date-requires c κs =
     let s = c .before .before .before .before .before in
     (s .pre .0 .held .bounded, s .pre .1)
 
@@ -48,7 +48,7 @@ magnitude-requires c κs =
     let ref = book.byFactor (orZero (a .pn .0)) in
     let l = at-l .l .given .1 in
     let limited = at-limit-of .limit-of .ensures in
-    let t = c .numerator-on in
+    let t = c .numerator-by-date in
     record {
       divisor = s .pre .0 .divides .small;
       reference = subst (λ (z : ℤ). mag z ≤ 4000000000000000000) (sym (back (t .result) (t .ok)))
@@ -59,7 +59,7 @@ magnitude-requires c κs =
 returns-2 : tie.Need-returns-2
 unfolding quarterOf
 returns-2 c =
-    let t = c .before .numerator-on in
+    let t = c .before .numerator-by-date in
     let at-l = c .before .before .before in
     let at-limit-of = at-l .before .before in
     let s = at-limit-of .before .before in
@@ -71,14 +71,14 @@ returns-2 c =
     (s .pre .0 .divides .is [] ref (record { is = refl; natural = s .pre .0 .held .bounded .is }))
     (c .magnitude .ensures ∙ ap (λ (z : ℤ). magnitude (a .terms .direction) (a .d) z (l .0 .0 .0)) (back (t .result) (t .ok)))
 
-pub exact-on-spec : {M : Type 1} → statement M
-exact-on-spec =
+pub exact-by-date-spec : {M : Type 1} → statement M
+exact-by-date-spec =
     tie.close
     (tie.spec
     limit-of-requires
     enum-known-l
     enum-told
     returns
-    numerator-on-requires
+    numerator-by-date-requires
     magnitude-requires
     returns-2)

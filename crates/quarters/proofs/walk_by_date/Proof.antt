@@ -1,4 +1,4 @@
--- `quarters::walk_dated` meets its contract.
+-- `quarters::walk_by_date` meets its contract.
 use mathlib.Core.Path.{_≡_, sym, _∙_, ap, subst}
 use mathlib.Core.List.{List, []}
 use mathlib.Core.Bool.{Bool, _&&_}
@@ -18,8 +18,8 @@ use Rattle.calendar.proofs.Clocks.{clock-next}
 use Rattle.reference.specs.declared.Reference.the-variants.{ByFactor}
 use Rattle.exact.specs.Exacts.{quarterAnswer}
 use Rattle.quarters.proofs.Walks.{state, Going, going-starts, going-counts, going-few, going-on, walks-refused, walks-ended}
-use Rattle.quarters.proofs.walk_dated.Statement.{statement}
-use Rattle.quarters.proofs.walk_dated.Tie as tie
+use Rattle.quarters.proofs.walk_by_date.Statement.{statement}
+use Rattle.quarters.proofs.walk_by_date.Tie as tie
 
 abbrev Inv-loop : tie.InvT-loop
 Inv-loop archive pn d sheet₀ used terms last₀ link₀ count₀ fine₀ clock₀ sheet last link count fine clock =
@@ -89,8 +89,8 @@ part-r-start c = start-end _
 part-r-end : tie.Need-part-r-end Inv-loop μ-loop
 part-r-end c = end-within (at-hand c .below) (entry (turn c) .pre .0 .room)
 
-exact-on-requires : tie.Need-exact-on-requires Inv-loop μ-loop
-exact-on-requires c κs =
+exact-by-date-requires : tie.Need-exact-by-date-requires Inv-loop μ-loop
+exact-by-date-requires c κs =
     let t = turn (c .before) in
     let p = entry t .pre in (
       record { held = p .1 .0 .held; divides = p .1 .0 .divides; size = part-size _ (c .r .given .2) },
@@ -129,14 +129,14 @@ loop-again c =
     let t = turn n in
     let a = entry t .args in
     let terms = meaning (a .place .terms) in (
-      going-on (t .loop .inv .0) (x .exact-on .result) (at-hand n) (c .before .link-of2 .ensures .0)
-          (λ ref k. rw (k .is) (x .exact-on .ensures ∙ ap (λ (r : List ℕ). quarterAnswer terms (book.byFactor (orZero (a .pn .0))) (quarterOf terms (t .loop .count) r)) (record-part (a .archive .now) _)))
+      going-on (t .loop .inv .0) (x .exact-by-date .result) (at-hand n) (c .before .link-of2 .ensures .0)
+          (λ ref k. rw (k .is) (x .exact-by-date .ensures ∙ ap (λ (r : List ℕ). quarterAnswer terms (book.byFactor (orZero (a .pn .0))) (quarterOf terms (t .loop .count) r)) (record-part (a .archive .now) _)))
           (ap (λ (z : Bool). z && t .loop .fine) (e .enter .ensures .0)) (e .enter .ensures .1) (e .enter .kept .0),
       c .after .ensures ∙ ap (λ (k : Clock). clockAfter k (t .loop .count + 1)) (t .loop .inv .1) ∙ clock-next (terms .first) (t .loop .count) (entry t .pre .1 .1),
     )
 
-ended-requires : tie.Need-ended-requires Inv-loop μ-loop
-ended-requires c κs = search needs
+answer-at-end-requires : tie.Need-answer-at-end-requires Inv-loop μ-loop
+answer-at-end-requires c κs = search needs
 
 same-length-2 : tie.Need-same-length-2 Inv-loop μ-loop
 same-length-2 c = c .before .before .loop .inv .0 .size
@@ -144,10 +144,10 @@ same-length-2 c = c .before .before .loop .inv .0 .size
 returns-2 : tie.Need-returns-2 Inv-loop μ-loop
 returns-2 c =
     let t = c .before .before in
-    walks-ended (entry t .args .place) (t .before .before .before .link-of .ensures .0) (t .loop .inv .0) (c .before .loop-test .left) (c .ended .ensures) (entry t .pre .1 .0 .held .bounded)
+    walks-ended (entry t .args .place) (t .before .before .before .link-of .ensures .0) (t .loop .inv .0) (c .before .loop-test .left) (c .answer-at-end .ensures) (entry t .pre .1 .0 .held .bounded)
 
-pub walk-dated-spec : {M : Type 1} → statement M
-walk-dated-spec =
+pub walk-by-date-spec : {M : Type 1} → statement M
+walk-by-date-spec =
     tie.close
     (tie.spec
     Inv-loop
@@ -166,13 +166,13 @@ walk-dated-spec =
     sub-r
     part-r-start
     part-r-end
-    exact-on-requires
+    exact-by-date-requires
     enter-requires
     add-count
     link-of-requires-2
     after-requires
     loop-less
     loop-again
-    ended-requires
+    answer-at-end-requires
     same-length-2
     returns-2)

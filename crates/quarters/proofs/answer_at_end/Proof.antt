@@ -1,11 +1,11 @@
--- `quarters::ended` meets its contract.
+-- `quarters::answer_at_end` meets its contract.
 use mathlib.Core.Path.{sym, _∙_}
 use borrow.Author.Needs.{needs}
 use borrow.Author.Tests.{not-true, not-false}
 use Rattle.terms.specs.Meanings.{meaning}
 use Rattle.quarters.proofs.Walks.{counted-from, end-uncounted, end-unreadable, end-late, end-given}
-use Rattle.quarters.proofs.ended.Statement.{statement}
-use Rattle.quarters.proofs.ended.Tie as tie
+use Rattle.quarters.proofs.answer_at_end.Statement.{statement}
+use Rattle.quarters.proofs.answer_at_end.Tie as tie
 
 in-count-range-requires : tie.Need-in-count-range-requires
 in-count-range-requires c κs = search needs
@@ -40,5 +40,5 @@ returns-4 c =
     end-given (meaning (a .terms)) (a .count) (a .fine) (sym (i .in-count-range .ensures) ∙ not-false _ (f .before .if1 .left)) (not-false _ (f .if2 .left))
     (sym (c .before .in-calendar .ensures) ∙ not-false _ (c .if3 .left))
 
-pub ended-spec : {M : Type 1} → statement M
-ended-spec = tie.close (tie.spec in-count-range-requires returns returns-2 in-calendar-requires returns-3 returns-4)
+pub answer-at-end-spec : {M : Type 1} → statement M
+answer-at-end-spec = tie.close (tie.spec in-count-range-requires returns returns-2 in-calendar-requires returns-3 returns-4)

@@ -1,4 +1,4 @@
--- `quarters::walk_own` meets its contract.
+-- `quarters::walk_without_date` meets its contract.
 use mathlib.Core.Path.{_∙_, ap}
 use mathlib.Core.List.{List}
 use mathlib.Core.Bool.{Bool, _&&_}
@@ -12,8 +12,8 @@ use Rattle.chains.proofs.Laws.{Met, no-at, met, link-nearer}
 use Rattle.terms.specs.Meanings.{meaning}
 use Rattle.exact.specs.Exacts.{quarterAnswer}
 use Rattle.quarters.proofs.Walks.{state, Going, going-starts, going-counts, going-on, walks-refused, walks-ended}
-use Rattle.quarters.proofs.walk_own.Statement.{statement}
-use Rattle.quarters.proofs.walk_own.Tie as tie
+use Rattle.quarters.proofs.walk_without_date.Statement.{statement}
+use Rattle.quarters.proofs.walk_without_date.Tie as tie
 
 abbrev Inv-loop : tie.InvT-loop
 Inv-loop archive reference d powers sheet₀ used terms last₀ link₀ count₀ fine₀ sheet last link count fine =
@@ -115,8 +115,8 @@ loop-again c =
     (λ ref k. x .exact-of .ensures ref k ∙ ap (λ (r : List ℕ). quarterAnswer terms ref (quarterOf terms (t .loop .count) r)) (record-part (a .archive .now) _))
     (ap (λ (z : Bool). z && t .loop .fine) (e .enter .ensures .0)) (e .enter .ensures .1) (e .enter .kept .0)
 
-ended-requires : tie.Need-ended-requires Inv-loop μ-loop
-ended-requires c κs = search needs
+answer-at-end-requires : tie.Need-answer-at-end-requires Inv-loop μ-loop
+answer-at-end-requires c κs = search needs
 
 same-length-2 : tie.Need-same-length-2 Inv-loop μ-loop
 same-length-2 c = c .before .before .loop .inv .size
@@ -124,10 +124,10 @@ same-length-2 c = c .before .before .loop .inv .size
 returns-2 : tie.Need-returns-2 Inv-loop μ-loop
 returns-2 c =
     let t = c .before .before in
-    walks-ended (entry t .args .place) (t .before .link-of .ensures .0) (t .loop .inv) (c .before .loop-test .left) (c .ended .ensures) (entry t .pre .1 .0 .held .bounded)
+    walks-ended (entry t .args .place) (t .before .link-of .ensures .0) (t .loop .inv) (c .before .loop-test .left) (c .answer-at-end .ensures) (entry t .pre .1 .0 .held .bounded)
 
-pub walk-own-spec : {M : Type 1} → statement M
-walk-own-spec =
+pub walk-without-date-spec : {M : Type 1} → statement M
+walk-without-date-spec =
     tie.close
     (tie.spec
     Inv-loop
@@ -151,6 +151,6 @@ walk-own-spec =
     link-of-requires-2
     loop-less
     loop-again
-    ended-requires
+    answer-at-end-requires
     same-length-2
     returns-2)
