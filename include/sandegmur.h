@@ -23,7 +23,7 @@
 /* The version of these declarations: the first number changes when a call or a number changes its meaning, the second
  * when something is added. */
 #define SANDEGMUR_VERSION_MAJOR 1
-#define SANDEGMUR_VERSION_MINOR 2
+#define SANDEGMUR_VERSION_MINOR 3
 
 #ifdef __cplusplus
 extern "C" {
@@ -32,24 +32,25 @@ extern "C" {
 /* The numbers that a call can return. */
 enum {
     SANDEGMUR_NOT_REFUSED = 0,
-    SANDEGMUR_NOT_ARCHIVE = 1,     /* length not 32 x 1..65,535, text or U wrong */
-    SANDEGMUR_BAD_LINK = 2,        /* link not above its holder or not below U */
-    SANDEGMUR_WRONG_KIND = 3,      /* wrong kind at a link; in audit any unknown kind */
-    SANDEGMUR_NO_PLANT = 4,        /* no plant p */
-    SANDEGMUR_NO_MEASURE = 5,      /* no measure k */
-    SANDEGMUR_BAD_PLANT = 6,       /* technology, variant or nominal power */
-    SANDEGMUR_BAD_MEASURE = 7,     /* direction or execution; positive for wind or solar */
-    SANDEGMUR_BAD_COUNT = 8,       /* quarters not 1..2,976; before-quarters over 96 */
-    SANDEGMUR_OUT_OF_RANGE = 9,    /* needed field out of range */
-    SANDEGMUR_BAD_CURVE = 10,      /* under two curve points, or speeds not rising */
-    SANDEGMUR_TOO_FEW_USABLE = 11, /* fewer usable before-quarters than needed */
-    SANDEGMUR_DIVISOR_ZERO = 12,   /* the before-quarters' curve power or irradiance sums to 0 */
-    SANDEGMUR_NO_ROOM = 13,        /* list shorter than the quarters, or a result part that is not 24 bytes long */
-    SANDEGMUR_BAD_RECORD = 14,     /* new record: not 32 bytes, kind not 1-5, or a link not 0 */
-    SANDEGMUR_BAD_OWNER = 15,      /* owner unused or of the wrong kind */
-    SANDEGMUR_ARCHIVE_FULL = 16,   /* U equals all records */
-    SANDEGMUR_NOT_NAMED_ONCE = 17, /* audit: a record named by none or several */
-    SANDEGMUR_NOT_IN_CALENDAR = 18 /* dated measure: first or last quarter past 3,506,400; delivery day: quarter 0 or past it */
+    SANDEGMUR_NOT_ARCHIVE = 1,         /* length not 32 x 1..65,535, text or U wrong */
+    SANDEGMUR_BAD_LINK = 2,            /* link not above its holder or not below U */
+    SANDEGMUR_WRONG_KIND = 3,          /* wrong kind at a link; in audit any unknown kind */
+    SANDEGMUR_NO_PLANT = 4,            /* no plant p */
+    SANDEGMUR_NO_MEASURE = 5,          /* no measure k */
+    SANDEGMUR_BAD_PLANT = 6,           /* technology, variant or nominal power */
+    SANDEGMUR_BAD_MEASURE = 7,         /* direction or execution; positive for wind or solar */
+    SANDEGMUR_BAD_COUNT = 8,           /* quarters not 1..2,976; before-quarters over 96 */
+    SANDEGMUR_OUT_OF_RANGE = 9,        /* needed field out of range */
+    SANDEGMUR_BAD_CURVE = 10,          /* under two curve points, or speeds not rising */
+    SANDEGMUR_TOO_FEW_USABLE = 11,     /* fewer usable before-quarters than needed */
+    SANDEGMUR_DIVISOR_ZERO = 12,       /* the before-quarters' curve power or irradiance sums to 0 */
+    SANDEGMUR_NO_ROOM = 13,            /* list shorter than the quarters, or a result part that is not 24 bytes long */
+    SANDEGMUR_BAD_RECORD = 14,         /* new record: not 32 bytes, kind not 1-5, or a link not 0 */
+    SANDEGMUR_BAD_OWNER = 15,          /* owner unused or of the wrong kind */
+    SANDEGMUR_ARCHIVE_FULL = 16,       /* U equals all records */
+    SANDEGMUR_NOT_NAMED_ONCE = 17,     /* audit: a record named by none or several */
+    SANDEGMUR_NOT_IN_CALENDAR = 18,    /* measure: first or last quarter past 3,506,400; delivery day: quarter 0 or past it */
+    SANDEGMUR_LAST_NOT_NAMED_ONCE = 19 /* taking back: U is 1, or the last record not named by precisely one link */
 };
 
 /* Sizes and the most of each. */
@@ -74,7 +75,7 @@ enum {
 enum {
     SANDEGMUR_SETTLE_STACK = 30720, /* settle and sandegmur_settle */
     SANDEGMUR_AUDIT_STACK = 67584,
-    SANDEGMUR_OTHER_STACK = 1024 /* fresh, append, show and delivery_day */
+    SANDEGMUR_OTHER_STACK = 1024 /* fresh, append, take_back, show and delivery_day */
 };
 
 /* Kinds of record. The head, record 0, has none. */
@@ -162,6 +163,12 @@ uint32_t sandegmur_fresh(uint8_t *archive, size_t archive_length);
  * a measure under a plant; a before-quarter or a quarter under a measure. It becomes the last of its chain, and its number is
  * U, what sandegmur_used gives before the call; after it U is one more. Refused with 1, 14, 15, 2, 3 or 16. */
 uint32_t sandegmur_append(uint8_t *archive, size_t archive_length, uint64_t owner, const uint8_t *record, size_t record_length);
+
+/* Takes the last record, number U - 1, back: its 32 bytes become 0, so do the four of the one link that names it, and U is one
+ * less; no other byte changes. After an append to an archive that sandegmur_audit does not refuse, this gives the archive from
+ * before the append, byte for byte if the new record's place was all 0; other bytes that stood there are lost. Called again, it
+ * takes back the record before. Refused with 1 or 19. */
+uint32_t sandegmur_take_back(uint8_t *archive, size_t archive_length);
 
 /* Tests the kinds and links of all used records. Refused with 1, 2, 3 or 17. */
 uint32_t sandegmur_audit(const uint8_t *archive, size_t archive_length);
@@ -310,6 +317,8 @@ static inline const char *sandegmur_refusal_text(uint32_t number)
         return "a used record is named by no link or by several";
     case SANDEGMUR_NOT_IN_CALENDAR:
         return "a quarter is not in the calendar, whose quarters are 1 to 3,506,400";
+    case SANDEGMUR_LAST_NOT_NAMED_ONCE:
+        return "there is no record to take back, or the last one is named by no link or by several";
     default:
         return "no refusal has this number";
     }

@@ -14,6 +14,9 @@ enum { RECORDS = 8, ARCHIVE = RECORDS * SANDEGMUR_RECORD_BYTES, LIST = 64, RESUL
 /* A dated measure of 58 quarters. */
 enum { DATED = 58, DATED_ARCHIVE = (3 + DATED) * SANDEGMUR_RECORD_BYTES, DATED_LIST = (DATED + 1) * SANDEGMUR_PLACE_BYTES };
 
+/* For taking back: the archive's records, one or more of them unused. */
+enum { BACK = 12, BACK_ARCHIVE = BACK * SANDEGMUR_RECORD_BYTES };
+
 static int failed;
 
 #define CHECK(test) \
@@ -84,7 +87,7 @@ static void test_constants(void)
         SANDEGMUR_NO_PLANT,    SANDEGMUR_NO_MEASURE,     SANDEGMUR_BAD_PLANT,    SANDEGMUR_BAD_MEASURE,
         SANDEGMUR_BAD_COUNT,   SANDEGMUR_OUT_OF_RANGE,   SANDEGMUR_BAD_CURVE,    SANDEGMUR_TOO_FEW_USABLE,
         SANDEGMUR_DIVISOR_ZERO, SANDEGMUR_NO_ROOM,       SANDEGMUR_BAD_RECORD,   SANDEGMUR_BAD_OWNER,
-        SANDEGMUR_ARCHIVE_FULL, SANDEGMUR_NOT_NAMED_ONCE, SANDEGMUR_NOT_IN_CALENDAR,
+        SANDEGMUR_ARCHIVE_FULL, SANDEGMUR_NOT_NAMED_ONCE, SANDEGMUR_NOT_IN_CALENDAR, SANDEGMUR_LAST_NOT_NAMED_ONCE,
     };
     static const int kinds[] = { SANDEGMUR_PLANT, SANDEGMUR_CURVE_POINT, SANDEGMUR_MEASURE, SANDEGMUR_BEFORE_QUARTER,
                                  SANDEGMUR_QUARTER };
@@ -93,7 +96,7 @@ static void test_constants(void)
     static const int directions[] = { SANDEGMUR_POSITIVE, SANDEGMUR_NEGATIVE };
     static const int executions[] = { SANDEGMUR_REQUESTED, SANDEGMUR_TOLERATED, SANDEGMUR_BOTH_SIDES_FIXED };
     static const int marks[] = { SANDEGMUR_NOT_MARKED, SANDEGMUR_MARKED };
-    check_numbered(refusals, 19, 0);
+    check_numbered(refusals, 20, 0);
     check_numbered(kinds, 5, 1);
     check_numbered(technologies, 3, 1);
     check_numbered(variants, 2, 1);
@@ -166,11 +169,11 @@ static void test_amounts(void)
 /* Every refusal has a text of its own, and no other number has one. */
 static void test_texts(void)
 {
-    for (uint32_t number = 0; number <= SANDEGMUR_NOT_IN_CALENDAR + 1; number++)
+    for (uint32_t number = 0; number <= SANDEGMUR_LAST_NOT_NAMED_ONCE + 1; number++)
         for (uint32_t other = 0; other < number; other++)
             CHECK(strcmp(sandegmur_refusal_text(number), sandegmur_refusal_text(other)) != 0);
     CHECK(strcmp(sandegmur_refusal_text(0), "not refused") == 0);
-    CHECK(strcmp(sandegmur_refusal_text(UINT32_MAX), sandegmur_refusal_text(SANDEGMUR_NOT_IN_CALENDAR + 1)) == 0);
+    CHECK(strcmp(sandegmur_refusal_text(UINT32_MAX), sandegmur_refusal_text(SANDEGMUR_LAST_NOT_NAMED_ONCE + 1)) == 0);
 }
 
 /* A new record has the number U, and its first link or next link in the place that the header names. */
@@ -241,6 +244,7 @@ static void test_most(void)
     CHECK(SANDEGMUR_MOST_RECORDS * SANDEGMUR_RECORD_BYTES == SANDEGMUR_MOST_BYTES);
     CHECK(sandegmur_fresh(archive, most) == SANDEGMUR_NOT_REFUSED);
     CHECK(sandegmur_fresh(archive, most + SANDEGMUR_RECORD_BYTES) == SANDEGMUR_NOT_ARCHIVE);
+    CHECK(sandegmur_take_back(archive, most + SANDEGMUR_RECORD_BYTES) == SANDEGMUR_NOT_ARCHIVE);
     CHECK(settle_counts(archive, SANDEGMUR_MOST_BEFORE_QUARTERS, 1) == SANDEGMUR_NOT_REFUSED);
     CHECK(settle_counts(archive, SANDEGMUR_MOST_BEFORE_QUARTERS + 1, 1) == SANDEGMUR_BAD_COUNT);
     CHECK(settle_counts(archive, 1, SANDEGMUR_MOST_QUARTERS) == SANDEGMUR_NOT_REFUSED);
@@ -275,6 +279,7 @@ static void test_null(void)
     CHECK(sandegmur_fresh(NULL, 0) == SANDEGMUR_NOT_ARCHIVE);
     CHECK(sandegmur_append(NULL, 0, 0, record, sizeof record) == SANDEGMUR_NOT_ARCHIVE);
     CHECK(sandegmur_append(archive, ARCHIVE, 0, NULL, 0) == SANDEGMUR_BAD_RECORD);
+    CHECK(sandegmur_take_back(NULL, 0) == SANDEGMUR_NOT_ARCHIVE);
     CHECK(sandegmur_audit(NULL, 0) == SANDEGMUR_NOT_ARCHIVE);
     CHECK(sandegmur_show(NULL, 0, 0) == 0);
     CHECK(settle(NULL, 0, 1, 1, list, LIST, result, SANDEGMUR_RESULT_BYTES) == SANDEGMUR_NOT_ARCHIVE);
@@ -374,6 +379,7 @@ static void test_refused(void)
     CHECK(sandegmur_append(archive, ARCHIVE, 1, record, sizeof record) == SANDEGMUR_BAD_OWNER);
     CHECK(sandegmur_append(archive, ARCHIVE, UINT64_MAX, record, sizeof record) == SANDEGMUR_BAD_OWNER);
     CHECK(sandegmur_append(archive, ARCHIVE - SANDEGMUR_RECORD_BYTES, 2, record, sizeof record) == SANDEGMUR_ARCHIVE_FULL);
+    CHECK(sandegmur_take_back(archive, ARCHIVE - 1) == SANDEGMUR_NOT_ARCHIVE);
     CHECK(memcmp(archive, was, ARCHIVE) == 0);
 }
 
@@ -548,6 +554,7 @@ static void test_blocks(void)
             CHECK(sandegmur_show(cut, length, shown) == (whole && shown < 7 ? SANDEGMUR_RECORD_BYTES * shown : length));
         number = sandegmur_append(cut, length, 2, record, sizeof added);
         CHECK(number == (length == ARCHIVE ? SANDEGMUR_NOT_REFUSED : whole ? SANDEGMUR_ARCHIVE_FULL : SANDEGMUR_NOT_ARCHIVE));
+        CHECK(sandegmur_take_back(cut, length) == (whole ? SANDEGMUR_NOT_REFUSED : SANDEGMUR_NOT_ARCHIVE));
         whole = length != 0 && length % SANDEGMUR_RECORD_BYTES == 0;
         CHECK(sandegmur_fresh(cut, length) == (whole ? SANDEGMUR_NOT_REFUSED : SANDEGMUR_NOT_ARCHIVE));
         free(cut);
@@ -573,6 +580,203 @@ static void test_delivery_blocks(void)
     }
 }
 
+/* Taken back, every byte is as before the record was filed, and so one after another down to the fresh archive, then 19. */
+static void test_undone(void)
+{
+    /* From record 1 on; of each chain the first record and the next, so that every link names the last record once. */
+    static const struct {
+        uint8_t kind;
+        uint32_t owner;
+    } filed[] = {
+        { SANDEGMUR_PLANT, 0 },   { SANDEGMUR_CURVE_POINT, 1 },    { SANDEGMUR_CURVE_POINT, 1 },    { SANDEGMUR_MEASURE, 1 },
+        { SANDEGMUR_MEASURE, 1 }, { SANDEGMUR_BEFORE_QUARTER, 5 }, { SANDEGMUR_BEFORE_QUARTER, 5 }, { SANDEGMUR_QUARTER, 5 },
+        { SANDEGMUR_QUARTER, 5 }, { SANDEGMUR_PLANT, 0 },
+    };
+    enum { FILED = sizeof filed / sizeof filed[0] };
+    uint8_t archive[BACK_ARCHIVE], was[FILED][BACK_ARCHIVE], record[SANDEGMUR_RECORD_BYTES];
+    CHECK(sandegmur_fresh(archive, BACK_ARCHIVE) == SANDEGMUR_NOT_REFUSED);
+    for (uint32_t i = 0; i < FILED; i++) {
+        int owns = filed[i].kind == SANDEGMUR_PLANT || filed[i].kind == SANDEGMUR_MEASURE;
+        memcpy(was[i], archive, BACK_ARCHIVE);
+        memset(record, FILL, sizeof record);
+        record[SANDEGMUR_KIND_AT] = filed[i].kind;
+        memset(record + SANDEGMUR_NEXT_AT, 0, owns ? 12 : 4);
+        CHECK(file(archive, BACK_ARCHIVE, filed[i].owner, record) == SANDEGMUR_NOT_REFUSED);
+        CHECK(sandegmur_take_back(archive, BACK_ARCHIVE) == SANDEGMUR_NOT_REFUSED);
+        CHECK(memcmp(archive, was[i], BACK_ARCHIVE) == 0);
+        CHECK(file(archive, BACK_ARCHIVE, filed[i].owner, record) == SANDEGMUR_NOT_REFUSED);
+        CHECK(sandegmur_used(archive, BACK_ARCHIVE) == i + 2);
+    }
+    CHECK(sandegmur_audit(archive, BACK_ARCHIVE) == SANDEGMUR_NOT_REFUSED);
+    for (size_t i = FILED; i > 0; i--) {
+        CHECK(sandegmur_take_back(archive, BACK_ARCHIVE) == SANDEGMUR_NOT_REFUSED);
+        CHECK(memcmp(archive, was[i - 1], BACK_ARCHIVE) == 0);
+        CHECK(sandegmur_audit(archive, BACK_ARCHIVE) == SANDEGMUR_NOT_REFUSED);
+    }
+    CHECK(sandegmur_take_back(archive, BACK_ARCHIVE) == SANDEGMUR_LAST_NOT_NAMED_ONCE);
+    CHECK(memcmp(archive, was[0], BACK_ARCHIVE) == 0);
+
+    /* Of bytes that stood in the unused records, those in the place of the new one are lost. */
+    memset(archive + SANDEGMUR_RECORD_BYTES, FILL, BACK_ARCHIVE - SANDEGMUR_RECORD_BYTES);
+    memcpy(was[0], archive, BACK_ARCHIVE);
+    memset(was[0] + SANDEGMUR_RECORD_BYTES, 0, SANDEGMUR_RECORD_BYTES);
+    CHECK(file(archive, BACK_ARCHIVE, 0, record) == SANDEGMUR_NOT_REFUSED);
+    CHECK(sandegmur_take_back(archive, BACK_ARCHIVE) == SANDEGMUR_NOT_REFUSED);
+    CHECK(memcmp(archive, was[0], BACK_ARCHIVE) == 0);
+}
+
+/* The call on a copy of the archive between other bytes. Not refused, it zeros the last record and the link that starts at this
+ * byte, and lowers U; every other byte stays. */
+static void check_take_back(const uint8_t *archive, size_t length, uint32_t number, size_t link)
+{
+    enum { BESIDE = SANDEGMUR_RECORD_BYTES };
+    uint8_t all[BESIDE + BACK_ARCHIVE + BESIDE], expected[sizeof all];
+    if (length > BACK_ARCHIVE)
+        abort();
+    memset(all, FILL, sizeof all);
+    memcpy(all + BESIDE, archive, length);
+    memcpy(expected, all, sizeof all);
+    if (number == SANDEGMUR_NOT_REFUSED) {
+        uint32_t last = sandegmur_used(archive, length) - 1;
+        memset(expected + BESIDE + SANDEGMUR_RECORD_BYTES * last, 0, SANDEGMUR_RECORD_BYTES);
+        memset(expected + BESIDE + link, 0, 4);
+        sandegmur_put32(expected + BESIDE + SANDEGMUR_HEAD_USED_AT, last);
+    }
+    CHECK(sandegmur_take_back(all + BESIDE, length) == number);
+    CHECK(memcmp(all, expected, sizeof all) == 0);
+}
+
+/* The last record's number, and the kinds of the records between head and last: all that there are, and two unknown ones. */
+enum { LAST = 8 };
+static const uint8_t kinds_before[LAST] = { 0, 1, 2, 3, 4, 5, 6, 0 };
+
+/* An archive of these records, the last one and unused ones that look like plants. No link names the last record. */
+static void file_unnamed(uint8_t *archive, uint8_t kind_of_last)
+{
+    memset(archive, FILL, BACK_ARCHIVE);
+    memcpy(archive + SANDEGMUR_HEAD_TEXT_AT, "AARB", 4);
+    sandegmur_put32(archive + SANDEGMUR_HEAD_USED_AT, LAST + 1);
+    for (size_t i = 1; i < LAST; i++)
+        archive[SANDEGMUR_RECORD_BYTES * i + SANDEGMUR_KIND_AT] = kinds_before[i];
+    archive[SANDEGMUR_RECORD_BYTES * LAST + SANDEGMUR_KIND_AT] = kind_of_last;
+    for (size_t i = LAST + 1; i < BACK; i++)
+        archive[SANDEGMUR_RECORD_BYTES * i + SANDEGMUR_KIND_AT] = SANDEGMUR_PLANT;
+}
+
+/* The last record's number in no place, in each one and in each two, those of the last record itself and of an unused one among
+ * them: taken back if precisely one place is a link, whatever the last record's kind. */
+static void test_named(void)
+{
+    /* Whether bytes 4-7, 8-11, 12-15 and 16-19 are a link: in the head, kinds 1 to 5, and the two unknown kinds. */
+    static const int links[LAST][4] = {
+        { 0, 1, 0, 0 }, { 1, 1, 1, 0 }, { 1, 0, 0, 0 }, { 1, 1, 1, 0 },
+        { 1, 0, 0, 0 }, { 1, 0, 0, 0 }, { 0, 0, 0, 0 }, { 0, 0, 0, 0 },
+    };
+    enum { PLACES = 4 * (LAST + 2) };
+    uint8_t archive[BACK_ARCHIVE];
+    for (size_t like = 1; like < LAST; like++) { /* the record whose kind the last one has */
+        size_t at[PLACES];
+        int link[PLACES];
+        for (size_t i = 0; i < PLACES; i++) {
+            size_t number = i / 4;
+            at[i] = SANDEGMUR_RECORD_BYTES * number + 4 + 4 * (i % 4);
+            link[i] = number <= LAST && links[number < LAST ? number : like][i % 4];
+        }
+        file_unnamed(archive, kinds_before[like]);
+        check_take_back(archive, BACK_ARCHIVE, SANDEGMUR_LAST_NOT_NAMED_ONCE, 0);
+        /* In the first place, 0, is U. */
+        for (size_t i = 1; i < PLACES; i++)
+            for (size_t j = i; j < PLACES; j++) {
+                int once = i == j ? link[i] : link[i] != link[j];
+                file_unnamed(archive, kinds_before[like]);
+                sandegmur_put32(archive + at[i], LAST);
+                sandegmur_put32(archive + at[j], LAST);
+                check_take_back(archive, BACK_ARCHIVE, once ? SANDEGMUR_NOT_REFUSED : SANDEGMUR_LAST_NOT_NAMED_ONCE,
+                                link[i] ? at[i] : at[j]);
+            }
+    }
+}
+
+/* A link with another number: 19. A text, U or length that no archive has: 1, whether the last record is named or not. */
+static void test_not_taken_back(void)
+{
+    static const uint32_t others[] = { 0, 1, LAST - 1, LAST + 1, LAST + 0x10000, LAST + 0x80000000, (uint32_t)LAST << 24 };
+    static const uint32_t used[] = { 0, BACK + 1, 0x10000 + LAST + 1, 0x80000000, UINT32_MAX };
+    static const size_t lengths[] = { 0, 1, 31, 33, LAST * SANDEGMUR_RECORD_BYTES, BACK_ARCHIVE - 1 };
+    uint8_t archive[BACK_ARCHIVE];
+    file_unnamed(archive, SANDEGMUR_QUARTER);
+    for (size_t i = 0; i < sizeof others / sizeof others[0]; i++) {
+        sandegmur_put32(archive + SANDEGMUR_HEAD_FIRST_PLANT_AT, others[i]);
+        check_take_back(archive, BACK_ARCHIVE, SANDEGMUR_LAST_NOT_NAMED_ONCE, 0);
+    }
+    for (uint32_t named = 0; named <= LAST; named += LAST) {
+        sandegmur_put32(archive + SANDEGMUR_HEAD_FIRST_PLANT_AT, named);
+        for (size_t i = 0; i < 4; i++) {
+            archive[SANDEGMUR_HEAD_TEXT_AT + i] ^= 0x20;
+            check_take_back(archive, BACK_ARCHIVE, SANDEGMUR_NOT_ARCHIVE, 0);
+            archive[SANDEGMUR_HEAD_TEXT_AT + i] ^= 0x20;
+        }
+        for (size_t i = 0; i < sizeof used / sizeof used[0]; i++) {
+            sandegmur_put32(archive + SANDEGMUR_HEAD_USED_AT, used[i]);
+            check_take_back(archive, BACK_ARCHIVE, SANDEGMUR_NOT_ARCHIVE, 0);
+        }
+        sandegmur_put32(archive + SANDEGMUR_HEAD_USED_AT, LAST + 1);
+        for (size_t i = 0; i < sizeof lengths / sizeof lengths[0]; i++)
+            check_take_back(archive, lengths[i], SANDEGMUR_NOT_ARCHIVE, 0);
+    }
+    /* An archive again, also if it ends with the last record. */
+    check_take_back(archive, BACK_ARCHIVE, SANDEGMUR_NOT_REFUSED, SANDEGMUR_HEAD_FIRST_PLANT_AT);
+    check_take_back(archive, (LAST + 1) * SANDEGMUR_RECORD_BYTES, SANDEGMUR_NOT_REFUSED, SANDEGMUR_HEAD_FIRST_PLANT_AT);
+
+    /* The head can't be taken back, not even where its link is 0, its own number. */
+    sandegmur_put32(archive + SANDEGMUR_HEAD_USED_AT, 1);
+    for (uint32_t named = 0; named <= 1; named++) {
+        sandegmur_put32(archive + SANDEGMUR_HEAD_FIRST_PLANT_AT, named);
+        check_take_back(archive, BACK_ARCHIVE, SANDEGMUR_LAST_NOT_NAMED_ONCE, 0);
+        check_take_back(archive, SANDEGMUR_RECORD_BYTES, SANDEGMUR_LAST_NOT_NAMED_ONCE, 0);
+    }
+}
+
+/* The last of as many records as there may be: 19 if the head names it too; else taken back and filed again, twice. */
+static void test_most_taken_back(void)
+{
+    size_t last = SANDEGMUR_MOST_BYTES - SANDEGMUR_RECORD_BYTES, before = last - SANDEGMUR_RECORD_BYTES;
+    uint8_t record[SANDEGMUR_RECORD_BYTES], *archive = block_of(NULL, SANDEGMUR_MOST_BYTES), *was;
+    CHECK(sandegmur_fresh(archive, SANDEGMUR_MOST_BYTES) == SANDEGMUR_NOT_REFUSED);
+    sandegmur_plant(record, SANDEGMUR_OTHER, SANDEGMUR_PAUSCHAL, 1000000);
+    CHECK(file(archive, SANDEGMUR_MOST_BYTES, 0, record) == SANDEGMUR_NOT_REFUSED);
+    sandegmur_measure(record, SANDEGMUR_NEGATIVE, SANDEGMUR_TOLERATED);
+    CHECK(file(archive, SANDEGMUR_MOST_BYTES, 1, record) == SANDEGMUR_NOT_REFUSED);
+    sandegmur_put32(archive + 2 * SANDEGMUR_RECORD_BYTES + SANDEGMUR_MEASURE_FIRST_QUARTER_AT, 3);
+    sandegmur_quarter(record, 7, 40, 400000, 0, 0, 0);
+    for (uint32_t number = 3; number < SANDEGMUR_MOST_RECORDS; number++) {
+        uint8_t *at = archive + SANDEGMUR_RECORD_BYTES * number;
+        memcpy(at, record, SANDEGMUR_RECORD_BYTES);
+        sandegmur_put32(at + SANDEGMUR_NEXT_AT, number + 1 < SANDEGMUR_MOST_RECORDS ? number + 1 : 0);
+    }
+    sandegmur_put32(archive + SANDEGMUR_HEAD_USED_AT, SANDEGMUR_MOST_RECORDS);
+    CHECK(sandegmur_audit(archive, SANDEGMUR_MOST_BYTES) == SANDEGMUR_NOT_REFUSED);
+
+    sandegmur_put32(archive + SANDEGMUR_HEAD_FIRST_PLANT_AT, SANDEGMUR_MOST_RECORDS - 1);
+    was = block_of(archive, SANDEGMUR_MOST_BYTES);
+    CHECK(sandegmur_take_back(archive, SANDEGMUR_MOST_BYTES) == SANDEGMUR_LAST_NOT_NAMED_ONCE);
+    CHECK(memcmp(archive, was, SANDEGMUR_MOST_BYTES) == 0);
+
+    sandegmur_put32(archive + SANDEGMUR_HEAD_FIRST_PLANT_AT, 1);
+    sandegmur_put32(was + SANDEGMUR_HEAD_FIRST_PLANT_AT, 1);
+    memset(was + last, 0, SANDEGMUR_RECORD_BYTES);
+    sandegmur_put32(was + before + SANDEGMUR_NEXT_AT, 0);
+    sandegmur_put32(was + SANDEGMUR_HEAD_USED_AT, SANDEGMUR_MOST_RECORDS - 1);
+    for (int i = 0; i < 2; i++) {
+        CHECK(sandegmur_take_back(archive, SANDEGMUR_MOST_BYTES) == SANDEGMUR_NOT_REFUSED);
+        CHECK(memcmp(archive, was, SANDEGMUR_MOST_BYTES) == 0);
+        CHECK(file(archive, SANDEGMUR_MOST_BYTES, 2, record) == SANDEGMUR_NOT_REFUSED);
+        CHECK(file(archive, SANDEGMUR_MOST_BYTES, 2, record) == SANDEGMUR_ARCHIVE_FULL);
+    }
+    free(archive);
+    free(was);
+}
+
 int main(void)
 {
     test_constants();
@@ -593,6 +797,10 @@ int main(void)
     test_delivery_days();
     test_blocks();
     test_delivery_blocks();
+    test_undone();
+    test_named();
+    test_not_taken_back();
+    test_most_taken_back();
     if (!failed)
         puts("host: every check holds");
     return failed;

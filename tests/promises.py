@@ -39,10 +39,10 @@ WORDS = ("rattle-kit-5b-plain", "097e4c862dff5811", "rt prove", "rt check", "req
 PHRASES = (
     "document 01",
     "written from document 01, document 02 and",
-    "| request 1 |",
-    "every day number from 1 on",
+    "| request 1 | every day number from 1 on",
     "day 1 is a Saturday",
-    "a delivery day that isn't 0 lies",
+    "| request 1 | a delivery day that isn't 0 lies",
+    "| request 1 | dates,",
     "it is 0 where that month has",
     "and refusal 18 first and last",
     "beside 8, 9 and 13",
@@ -64,9 +64,16 @@ PHRASES = (
     "32 bytes, in the lent block at 32 × number",
     "64 KiB",
     "65,536 bytes and one more",
-    "1,000,000 calls of seed 2 with the code of landing 5, of seed 5 with that of landing 8, and 800 inputs of seed 7",
+    "1,000,000 calls of seed 2 with the code of landing 5, of seed 5 with that of landing 8, of seed 6 with that of landing 9, and 800 inputs of seed 7",
     "the pages of landing 5",
     "the pages of landing 8",
+    "from those of landing 9",
+    "| request 2 | an append",
+    "| request 2 | of a sound archive",
+    "| request 2 | filings",
+    "| request 2 | a quarter",
+    "bytes 4-15 hold the number",
+    "the number is 1, or 19 where",
     "landing 6, has what it showed",
     "parts of 1,000 bytes",
     "a status of 0 or 1",
@@ -85,7 +92,7 @@ CLAUSE = re.compile(r"^    (requires|ensures) (.*?)(?=^    (?:requires|ensures) 
 ROW = re.compile(r"^\|(?!---)(.*)\|$", re.M)
 TABLE = re.compile(r"(?<=\n\| Crate \| Text changed in \| Labels \|\n\|---\|---\|---\|\n)(?:\|.*\n)+")
 FIXED = [(phrase, re.compile(re.escape(phrase).replace(r"\ ", r"\s+"))) for phrase in PHRASES]
-STATEMENTS = ("rules/specs/Demands.antt", "rules/specs/Figures.antt", "rules/specs/DateFigures.antt")
+STATEMENTS = ("rules/specs/Demands.antt", "rules/specs/Figures.antt", "rules/specs/DateFigures.antt", "rules/specs/TakeBackFigures.antt")
 
 
 class Function(NamedTuple):

@@ -22,7 +22,7 @@ enum {
     ARCHIVE = RECORDS * SANDEGMUR_RECORD_BYTES
 };
 
-enum call { SETTLE, SETTLE_BY_NAME, AUDIT, FRESH, APPEND, SHOW, DELIVERY_DAY };
+enum call { SETTLE, SETTLE_BY_NAME, AUDIT, FRESH, APPEND, TAKE_BACK, SHOW, DELIVERY_DAY };
 
 static uint8_t archive[ARCHIVE], list[SANDEGMUR_MOST_QUARTERS * SANDEGMUR_PLACE_BYTES], result[SANDEGMUR_RESULT_BYTES];
 static uint8_t record[SANDEGMUR_RECORD_BYTES];
@@ -53,6 +53,9 @@ static void run(void)
         break;
     case APPEND:
         answer = sandegmur_append(archive, ARCHIVE, 2, record, sizeof record);
+        break;
+    case TAKE_BACK:
+        answer = sandegmur_take_back(archive, ARCHIVE);
         break;
     case SHOW:
         answer = sandegmur_show(archive, ARCHIVE, 0);
@@ -139,6 +142,7 @@ int main(void)
     hold("audit", taken(AUDIT, SANDEGMUR_NOT_REFUSED), SANDEGMUR_AUDIT_STACK, SANDEGMUR_AUDIT_STACK - PAGE);
     hold("show", taken(SHOW, 0), SANDEGMUR_OTHER_STACK, 1);
     hold("append", taken(APPEND, SANDEGMUR_NOT_REFUSED), SANDEGMUR_OTHER_STACK, 1);
+    hold("take_back", taken(TAKE_BACK, SANDEGMUR_NOT_REFUSED), SANDEGMUR_OTHER_STACK, 1);
     for (uint32_t i = 0; i < HOLIDAYS; i++)
         holidays[i] = 9800 + i;
     hold("delivery_day", taken(DELIVERY_DAY, SANDEGMUR_NOT_REFUSED), SANDEGMUR_OTHER_STACK, 1);

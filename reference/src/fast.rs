@@ -861,6 +861,56 @@ fn audited(records: Records, marks: &mut [u64]) -> Result<(), u32> {
     Ok(())
 }
 
+/// Taking back.
+pub fn take_back(archive: &mut [u8]) -> u32 {
+    match naming_link(archive) {
+        Err(number) => number,
+        Ok((last, link)) => {
+            archive[link..link + 4].fill(0);
+            archive[last * 32..last * 32 + 32].fill(0);
+            archive[4..8].copy_from_slice(&(last as u32).to_le_bytes());
+            0
+        }
+    }
+}
+
+/// The last record's number and the byte at which the one link that names it starts, by one pass. Few records hold that
+/// number at all, so that the kind is read in these alone; only a second naming link ends the pass early.
+fn naming_link(archive: &[u8]) -> Result<(usize, usize), u32> {
+    let records = used_records(archive)?;
+    if records.len() == 1 {
+        return Err(19);
+    }
+    let last = records.len() as u32 - 1;
+    // The head's bytes 4-7 are U, and 12-15 are no link.
+    let mut found = if link(&records[0], 8) == last { Some(8) } else { None };
+    for (number, record) in records.0.chunks_exact(32).enumerate().skip(1) {
+        let holds = |at: usize| record[at..at + 4] == last.to_le_bytes();
+        if holds(4) || holds(8) || holds(12) {
+            by_kind(record, number, last, &mut found)?;
+        }
+    }
+    found.map(|link| (last as usize, link)).ok_or(19)
+}
+
+/// Of a record that holds the last one's number: its links that name it.
+#[cold]
+#[inline(never)]
+fn by_kind(record: &[u8], number: usize, last: u32, found: &mut Option<usize>) -> Result<(), u32> {
+    let end = match record[0] {
+        1 | 3 => 16,
+        2 | 4 | 5 => 8,
+        _ => 4,
+    };
+    for at in (4..end).step_by(4).filter(|&at| record[at..at + 4] == last.to_le_bytes()) {
+        if found.is_some() {
+            return Err(19);
+        }
+        *found = Some(32 * number + at);
+    }
+    Ok(())
+}
+
 /// Lines of numbers, handed on in parts of up to 64 KB.
 struct Lines<W> {
     bytes: Vec<u8>,

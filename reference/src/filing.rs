@@ -1,4 +1,4 @@
-//! Document 01, "Calls on the archive": fresh, append and show.
+//! Document 01, "Calls on the archive": fresh, append and show; request 2: taking the last record back.
 
 use crate::archive::*;
 
@@ -75,6 +75,63 @@ fn append_place(archive: &[u8], owner: u64, new: &[u8]) -> Result<(u64, u64, usi
         None => (used, owner, first),
         Some(&last) => (used, last, NEXT),
     })
+}
+
+/// Taking back: record U - 1 is cleared, the one link that named it is zeroed, U is lowered by 1.
+pub fn take_back(archive: &mut [u8]) -> Refusal {
+    match named_last(archive) {
+        Err(number) => number,
+        Ok((last, holder, at)) => {
+            let link = holder as usize * RECORD + at;
+            archive[link..link + 4].fill(0);
+            let place = last as usize * RECORD;
+            archive[place..place + RECORD].fill(0);
+            // U - 1 is the last record's number.
+            archive[4..8].copy_from_slice(&(last as u32).to_le_bytes());
+            0
+        }
+    }
+}
+
+/// The tests of taking back, 1 and then 19: gives the last record's number and where the one link that names it stands.
+fn named_last(archive: &[u8]) -> Result<(u64, u64, usize), Refusal> {
+    let used = used(archive)?;
+    // 19: U is 1.
+    if used == 1 {
+        return Err(19);
+    }
+    // 19: the last record isn't named by precisely one link.
+    let last = used - 1;
+    match names(archive, used, last)[..] {
+        [(holder, at)] => Ok((last, holder, at)),
+        _ => Err(19),
+    }
+}
+
+/// Every link of the head or of a used record of known kind that has a record's number as its value: holder and place.
+/// Whether the link is allowed doesn't matter, and the record's own links are among them.
+pub fn names(archive: &[u8], used: u64, wanted: u64) -> Vec<(u64, usize)> {
+    let mut names = Vec::new();
+    for number in 0..used {
+        for &at in links_of(archive, number) {
+            if link(record(archive, number), at) == wanted {
+                names.push((number, at));
+            }
+        }
+    }
+    names
+}
+
+/// Where a record's links stand; unknown kinds have none.
+fn links_of(archive: &[u8], number: u64) -> &'static [usize] {
+    if number == 0 {
+        return &[FIRST];
+    }
+    match record(archive, number)[0] {
+        PLANT | MEASURE => &[NEXT, FIRST, SECOND],
+        POINT | BEFORE | QUARTER => &[NEXT],
+        _ => &[],
+    }
 }
 
 /// Show: the record's bytes as part of the archive; empty on 1 or for a number of U or more.

@@ -1,5 +1,5 @@
-//! Seeded calls on document 01's archive and request 1's calendar: valid ones, one fault, several faults, mutations and
-//! noise.
+//! Seeded calls on document 01's archive, request 1's calendar and request 2's last record: valid ones, one fault,
+//! several faults, mutations and noise.
 //!
 //! Every seed and index gives one call, the same everywhere.
 
@@ -18,15 +18,17 @@ pub enum Call {
     Show { archive: Vec<u8>, number: u64 },
     Audit { archive: Vec<u8> },
     DeliveryDay { quarter: u64, holidays: Vec<u32> },
+    TakeBack { archive: Vec<u8> },
 }
 
 /// The numbers that each call can give.
-pub const NUMBERS: [(&str, &[Refusal]); 5] = [
+pub const NUMBERS: [(&str, &[Refusal]); 6] = [
     ("settle", &[0, 1, 2, 3, 4, 5, 6, 7, 8, 9, 10, 11, 12, 13, 18]),
     ("append", &[0, 1, 2, 3, 14, 15, 16]),
     ("audit", &[0, 1, 2, 3, 17]),
     ("fresh", &[0, 1]),
     ("delivery day", &[0, 18]),
+    ("take back", &[0, 1, 19]),
 ];
 
 /// The pairings and directions that can settle, each in executions 1 to 3.
@@ -52,8 +54,9 @@ pub struct Case {
 pub fn call(seed: u64, index: u64) -> Case {
     let mut rng = Rng::new(seed, index);
     match rng.below(100) {
-        0..=57 => settle_case(&mut rng),
-        58..=74 => append_case(&mut rng),
+        0..=53 => settle_case(&mut rng),
+        54..=59 => take_back_case(&mut rng),
+        60..=74 => append_case(&mut rng),
         75..=85 => audit_case(&mut rng),
         86..=90 => show_case(&mut rng),
         91..=93 => fresh_case(&mut rng),
@@ -1758,6 +1761,414 @@ fn delivery_case(rng: &mut Rng) -> Case {
     let days: Vec<Day> = calendar::next_days(if good { QuarterHour(quarter) } else { LAST }).collect();
     let holidays = holidays(rng, &days);
     Case { call: Call::DeliveryDay { quarter, holidays }, expected: Some(if good { 0 } else { 18 }) }
+}
+
+// ---------------------------------------------------------------------------------------------------------------
+// Taking back
+
+/// How the last record is named, or what it holds. Where a sheet gives no chance for it, the record stays named once.
+#[derive(Clone, Copy, Debug, PartialEq, Eq)]
+enum Naming {
+    /// As it was filed.
+    Once,
+    Nobody,
+    /// By a second link, by two of one record, by the head too.
+    Twice,
+    TwiceInOne,
+    HeadToo,
+    /// By links of its own.
+    Own,
+    OwnToo,
+    OwnTwice,
+    /// By a record of unknown kind, alone or beside the right one.
+    Unknown,
+    UnknownToo,
+    /// By a link for another kind, or of a record that isn't reached from the head.
+    WrongKind,
+    NotReached,
+    /// Of unknown kind itself.
+    UnknownLast,
+    /// Naming others.
+    Holding,
+    /// Some records at the end fall behind U.
+    Fewer,
+}
+
+use Naming::*;
+
+#[rustfmt::skip]
+const NAMINGS: &[Naming] = &[
+    Once, Once, Once, Once, Once, Nobody, Nobody, Twice, Twice, TwiceInOne, TwiceInOne, HeadToo, Own, Own, OwnToo,
+    OwnTwice, Unknown, UnknownToo, UnknownToo, WrongKind, WrongKind, NotReached, UnknownLast, UnknownLast, Holding, Fewer,
+];
+
+/// Kinds that are none, those beside 1 and 5 often.
+fn unknown_kind(rng: &mut Rng) -> u8 {
+    rng.pick(&[0, 0, 6, 6, 7, 9, 65, 128, 130, 255])
+}
+
+/// A sheet whose last record has just been filed: of any kind, the first of its chain or behind others, at a place with
+/// old bytes or with zeros.
+fn filed_last(rng: &mut Rng) -> Filed {
+    let dirty = rng.chance(60);
+    let kind = 1 + rng.below(5) as u8;
+    let first = rng.chance(50);
+    let mut plants = small_sheet(rng, dirty);
+    if kind == PLANT && first {
+        plants.clear();
+    }
+    if plants.is_empty() && !(kind == PLANT && first) {
+        plants.push(company(rng, dirty));
+    }
+    let at = rng.below(plants.len().max(1));
+    let inner = |rng: &mut Rng| Measure {
+        direction: 2,
+        execution: 2,
+        first: rng.word() as u32,
+        before: vec![Before { mark: 1, measured: 3, weather: 3 }; rng.below(4)],
+        quarters: vec![Quarter::default(); rng.below(4)],
+    };
+    if kind > PLANT {
+        let plant = &mut plants[at];
+        match kind {
+            POINT if first => plant.curve.clear(),
+            POINT if plant.curve.is_empty() => plant.curve = vec![Point { speed: 30, power: 5 }; 1 + rng.below(3)],
+            MEASURE if first => plant.measures.clear(),
+            MEASURE | BEFORE | QUARTER if plant.measures.is_empty() => plant.measures.push(inner(rng)),
+            _ => {}
+        }
+        match (kind, plant.measures.last_mut()) {
+            (BEFORE, Some(measure)) if first => measure.before.clear(),
+            (BEFORE, Some(measure)) => measure.before.push(Before { mark: 0, measured: 7, weather: 7 }),
+            (QUARTER, Some(measure)) if first => measure.quarters.clear(),
+            (QUARTER, Some(measure)) => measure.quarters.push(Quarter::default()),
+            _ => {}
+        }
+    }
+    let layout = layout(rng);
+    let spare = layout.spare.max(1);
+    let mut filed = file(&plants, &Layout { spare: 0, ..layout }, rng);
+    let more = |filed: &mut Filed, rng: &mut Rng, noise: bool| {
+        let mut record = vec![0; RECORD];
+        if noise {
+            rng.fill(&mut record);
+            record[0] = rng.below(7) as u8;
+        }
+        filed.bytes.extend(record);
+    };
+    if rng.below(60) == 0 {
+        // A last number beside 256 or 512, behind records that nothing names.
+        let last = rng.pick(&[255, 256, 257, 511, 512]);
+        while filed.used < last {
+            more(&mut filed, rng, layout.noise);
+            let number = filed.used;
+            filed.used += 1;
+            filed.set_link(number, NEXT, 0);
+        }
+        filed.set_used(filed.used as u32);
+    }
+    for _ in 0..spare {
+        more(&mut filed, rng, layout.noise);
+    }
+
+    // The record, filed by the plain call.
+    let owner = match (kind, filed.plants.get(at)) {
+        (POINT | MEASURE, Some(plant)) => plant.number,
+        (BEFORE | QUARTER, Some(plant)) => plant.measures.last().map_or(0, |measure| measure.number),
+        _ => 0,
+    };
+    let mut record = rng.bytes(RECORD);
+    record[0] = kind;
+    record[4..8].fill(0);
+    if kind == PLANT || kind == MEASURE {
+        record[8..16].fill(0);
+    }
+    let number = crate::append(&mut filed.bytes, owner, &record);
+    assert_eq!(number, 0, "a record that can be filed");
+    filed.used += 1;
+    filed
+}
+
+/// Leaves one of the links that name a record.
+fn name_once(rng: &mut Rng, filed: &mut Filed, last: u64) -> Field {
+    let names: Vec<Field> =
+        all_fields(filed).into_iter().filter(|field| filed.link(field.holder, field.at) == last).collect();
+    let kept = rng.below(names.len());
+    for (at, field) in names.iter().enumerate() {
+        if at != kept {
+            filed.set_link(field.holder, field.at, 0);
+        }
+    }
+    names[kept]
+}
+
+/// The link fields of a record.
+fn own_fields(filed: &Filed, number: u64) -> &'static [usize] {
+    match filed.kind(number) {
+        PLANT | MEASURE => &[NEXT, FIRST, SECOND],
+        _ => &[NEXT],
+    }
+}
+
+/// Names the last record in another way; gives the number to expect, if it is certain.
+fn rename(rng: &mut Rng, filed: &mut Filed, naming: Naming) -> Option<Refusal> {
+    let last = filed.used - 1;
+    let own = name_once(rng, filed, last);
+    let to = last as u32;
+    let others: Vec<Field> = all_fields(filed)
+        .into_iter()
+        .filter(|field| field.holder != last && (field.holder, field.at) != (own.holder, own.at))
+        .collect();
+    let unname = |filed: &mut Filed| filed.set_link(own.holder, own.at, 0);
+    match naming {
+        Once => Some(0),
+        Nobody => {
+            let other = rng.pick(&[0, 0, to - 1, to + 1, to | 1 << 16, to | 1 << 31]);
+            filed.set_link(own.holder, own.at, if other == to { 0 } else { other });
+            Some(19)
+        }
+        Twice if !others.is_empty() => {
+            for _ in 0..rng.pick(&[1, 1, 1, 2, 3]) {
+                let field = rng.pick(&others);
+                filed.set_link(field.holder, field.at, to);
+            }
+            Some(19)
+        }
+        TwiceInOne => {
+            let owners: Vec<u64> =
+                (1..last).filter(|&number| matches!(filed.kind(number), PLANT | MEASURE)).take(40).collect();
+            if owners.is_empty() {
+                return Some(0);
+            }
+            unname(filed);
+            let holder = rng.pick(&owners);
+            let left_out = rng.pick(&[NEXT, FIRST, SECOND, RECORD]);
+            for &at in [NEXT, FIRST, SECOND].iter().filter(|&&at| at != left_out) {
+                filed.set_link(holder, at, to);
+            }
+            Some(19)
+        }
+        HeadToo if own.holder != 0 => {
+            filed.set_link(0, FIRST, to);
+            Some(19)
+        }
+        Own | OwnToo => {
+            let fields = own_fields(filed, last);
+            let at = rng.pick(fields);
+            filed.set_link(last, at, to);
+            if naming == Own {
+                unname(filed);
+            }
+            Some(if naming == Own { 0 } else { 19 })
+        }
+        OwnTwice => {
+            let fields = own_fields(filed, last);
+            if fields.len() < 3 {
+                return Some(0);
+            }
+            unname(filed);
+            let left_out = rng.pick(&[NEXT, FIRST, SECOND, RECORD]);
+            for &at in fields.iter().filter(|&&at| at != left_out) {
+                filed.set_link(last, at, to);
+            }
+            Some(19)
+        }
+        Unknown if own.holder != 0 => {
+            *filed.byte(own.holder, 0) = unknown_kind(rng);
+            Some(19)
+        }
+        Unknown => {
+            // The head named it: now the record itself does, which is of unknown kind.
+            unname(filed);
+            *filed.byte(last, 0) = unknown_kind(rng);
+            let at = rng.pick(&[NEXT, FIRST, SECOND]);
+            filed.set_link(last, at, to);
+            Some(19)
+        }
+        UnknownToo => {
+            let numbers: Vec<u64> = (1..last).filter(|&number| number != own.holder).take(60).collect();
+            if !numbers.is_empty() {
+                let number = rng.pick(&numbers);
+                *filed.byte(number, 0) = unknown_kind(rng);
+                let at = rng.pick(&[NEXT, NEXT, FIRST, SECOND]);
+                filed.set_link(number, at, to);
+            }
+            Some(0)
+        }
+        WrongKind => {
+            let kind = filed.kind(last);
+            let wrong: Vec<Field> = others.iter().copied().filter(|field| field.kind != kind).collect();
+            if !wrong.is_empty() {
+                unname(filed);
+                let field = rng.pick(&wrong);
+                filed.set_link(field.holder, field.at, to);
+            }
+            Some(0)
+        }
+        NotReached if own.holder != 0 => {
+            for field in all_fields(filed) {
+                if filed.link(field.holder, field.at) == own.holder {
+                    filed.set_link(field.holder, field.at, 0);
+                }
+            }
+            Some(0)
+        }
+        UnknownLast => {
+            *filed.byte(last, 0) = unknown_kind(rng);
+            for at in [NEXT, FIRST, SECOND] {
+                if rng.chance(60) {
+                    filed.set_link(last, at, to);
+                }
+            }
+            Some(0)
+        }
+        Holding => {
+            for &at in own_fields(filed, last) {
+                let below = rng.word() as u32 % to;
+                let other = rng.pick(&[0, 1, to - 1, to + 1, 65_535, u32::MAX, below, below]);
+                filed.set_link(last, at, if other == to { 0 } else { other });
+            }
+            Some(0)
+        }
+        Fewer => {
+            let used = 1 + rng.word() % filed.used;
+            filed.set_used(used as u32);
+            filed.used = used;
+            None
+        }
+        Twice | HeadToo | NotReached => Some(0),
+    }
+}
+
+/// Puts the last record's number where no link stands that counts.
+fn decoys(rng: &mut Rng, filed: &mut Filed) {
+    let (used, all) = (filed.used, filed.all());
+    let to = used as u32 - 1;
+    for _ in 0..1 + rng.below(5) {
+        let number = rng.word() % used;
+        match rng.below(7) {
+            0 => {
+                let at = rng.pick(&[12, 12, 16, 20, 24, 28]);
+                filed.set_link(0, at, to);
+            }
+            1 | 2 if number > 0 && matches!(filed.kind(number), POINT | BEFORE | QUARTER) => {
+                let at = rng.pick(&[8, 12]);
+                filed.set_link(number, at, to);
+            }
+            3 => {
+                let at = rng.pick(&[16, 20, 24, 28]);
+                filed.set_link(number, at, to);
+            }
+            4 if all > used => {
+                // An unused record, often of a known kind.
+                let unused = used + rng.word() % (all - used);
+                *filed.byte(unused, 0) = rng.below(6) as u8;
+                let at = rng.pick(&[NEXT, FIRST, SECOND]);
+                filed.set_link(unused, at, to);
+            }
+            5 if number > 0 && !(1..=5).contains(&filed.kind(number)) => {
+                let at = rng.pick(&[NEXT, FIRST, SECOND]);
+                filed.set_link(number, at, to);
+            }
+            _ => {
+                // The number in the low bytes of a link that named nothing.
+                let free: Vec<Field> = all_fields(filed)
+                    .into_iter()
+                    .filter(|field| filed.link(field.holder, field.at) == 0)
+                    .take(100)
+                    .collect();
+                if !free.is_empty() {
+                    let field = rng.pick(&free);
+                    let high = rng.pick(&[1 << 16, 1 << 24, 1 << 31, 0xffff_0000, 0xff00_0000]);
+                    filed.set_link(field.holder, field.at, to | high);
+                }
+            }
+        }
+    }
+}
+
+fn take_back_case(rng: &mut Rng) -> Case {
+    let mode = rng.below(1_000);
+    let any_case = |archive| Case { call: Call::TakeBack { archive }, expected: None };
+    match mode {
+        0..=9 => {
+            let archive = noise(rng);
+            return any_case(archive);
+        }
+        10..=39 => {
+            let archive = soup(rng);
+            return any_case(archive);
+        }
+        // What other calls take, taking back may not.
+        40..=69 => {
+            let case = match rng.below(3) {
+                0 => settle_case(rng),
+                1 => append_case(rng),
+                _ => audit_case(rng),
+            };
+            if let Call::Settle { archive, .. } | Call::Append { archive, .. } | Call::Audit { archive } = case.call {
+                return any_case(archive);
+            }
+        }
+        70 | 71 => {
+            // As many records as an archive can have, or a few of them used.
+            let mut filed = longest(rng);
+            let expected = rename(rng, &mut filed, Once);
+            if rng.chance(50) {
+                decoys(rng, &mut filed);
+            }
+            return Case { call: Call::TakeBack { archive: filed.bytes }, expected };
+        }
+        _ => {}
+    }
+
+    // A record just filed, or the last one of a sheet laid out at once.
+    let mut filed = if rng.chance(75) {
+        filed_last(rng)
+    } else {
+        let dirty = rng.chance(60);
+        let plants = small_sheet(rng, dirty);
+        let layout = layout(rng);
+        file(&plants, &layout, rng)
+    };
+    let mut expected = if filed.used == 1 || (100..160).contains(&mode) {
+        // U = 1.
+        filed.used = 1;
+        filed.set_used(1);
+        match rng.below(4) {
+            0 => filed.bytes[8..].fill(0),
+            1 => filed.set_link(0, FIRST, 0),
+            2 => {
+                let noise = rng.pick(&[1, 1, 2, 1 << 16, u32::MAX, 1 << 31]);
+                filed.set_link(0, FIRST, noise);
+            }
+            _ => {}
+        }
+        Some(19)
+    } else {
+        let naming = rng.pick(NAMINGS);
+        rename(rng, &mut filed, naming)
+    };
+    if rng.chance(50) {
+        decoys(rng, &mut filed);
+    }
+    match mode {
+        160..=199 => {
+            // 1 stands before 19, U = 1 among it.
+            let fault = rng.pick(&[Length, Text, Used]);
+            if fault != Used && rng.chance(50) {
+                filed.set_used(1);
+            }
+            break_head(rng, &mut filed, fault);
+            expected = Some(1);
+        }
+        200..=239 => {
+            mutate(rng, &mut filed.bytes);
+            expected = None;
+        }
+        _ => {}
+    }
+    Case { call: Call::TakeBack { archive: filed.bytes }, expected }
 }
 
 // ---------------------------------------------------------------------------------------------------------------

@@ -1,4 +1,4 @@
-//! Wrong readings of document 01 and request 1, one at a time. A generated call reaches a situation if the wrong
+//! Wrong readings of document 01 and of requests 1 and 2, one at a time. A generated call reaches a situation if the wrong
 //! reading gives another outcome there than the right one; an example on the pages shows it in the same way. With
 //! `Slip::None` every call gives what the plain modules give.
 
@@ -15,6 +15,7 @@ pub enum Of {
     Show,
     Audit,
     DeliveryDay,
+    TakeBack,
     Program,
 }
 
@@ -152,6 +153,49 @@ slips! {
         DueNoLeap DeliveryDay "1.9" "29 February in no year"
         DueNoLeap2000 DeliveryDay "1.9" "no 29 February in 2000"
         DueWritten DeliveryDay "02, 1" "day set to 0 on a refusal"
+        BackEndsAtFirst TakeBack "02, 2" "count ends at the first naming link, so that a second one is left"
+        BackLastOfSeveral TakeBack "02, 2" "of several naming links the last one zeroed"
+        BackByRecord TakeBack "02, 2" "several naming links of one record counted as one"
+        BackNoneAccepted TakeBack "02, 2" "a last record that nothing names taken back"
+        BackUnknownCounted TakeBack "2.1!" "bytes 4-7 of unknown kinds counted"
+        BackUnknownLinks TakeBack "2.1!" "bytes 8-15 of unknown kinds counted"
+        BackUnusedCounted TakeBack "2.1!" "links of unused records counted"
+        BackRightKind TakeBack "2.1!" "only links that should lead to the last record's kind counted"
+        BackReached TakeBack "2.1!" "only links of records reached from the head counted"
+        BackFields TakeBack "2.1!" "bytes 8-15 of kinds 2, 4 and 5 taken for links"
+        BackNarrow TakeBack "2.1!" "only the low 16 bits of a link compared"
+        BackHeadUncounted TakeBack "2.1!" "the head's link not counted"
+        BackHeadSecond TakeBack "2.1!" "the head's bytes 12-15 taken for a link"
+        BackHeadUsed TakeBack "2.1!" "U lowered first, and the head's bytes 4-7 then taken for a link"
+        BackNextUncounted TakeBack "2.1!" "bytes 4-7 not taken for a link"
+        BackCurveUncounted TakeBack "2.1!" "bytes 8-11 of kind 1 not taken for a link"
+        BackMeasuresUncounted TakeBack "2.1!" "bytes 12-15 of kind 1 not taken for a link"
+        BackBeforeUncounted TakeBack "2.1!" "bytes 8-11 of kind 3 not taken for a link"
+        BackQuartersUncounted TakeBack "2.1!" "bytes 12-15 of kind 3 not taken for a link"
+        BackOwnUncounted TakeBack "2.2!" "the last record's own links not counted, as only links above their holder are"
+        BackOwnRefused TakeBack "2.2!" "a last record that names itself is 19, alone too"
+        BackOwnVanishes TakeBack "2.2!" "own links not counted beside another, alone counted"
+        BackOwnOnce TakeBack "2.2!" "several own links of the last record counted as one"
+        BackUnknownRefused TakeBack "2.3!" "19 for a last record of unknown kind"
+        BackUnknownThree TakeBack "2.3!" "3 for a last record of unknown kind"
+        BackHoldsTwo TakeBack "2.4" "the last record's own links tested: 2"
+        BackHoldsSeventeen TakeBack "2.4" "17 if the last record names another one, which nothing would name then"
+        BackHoldsNineteen TakeBack "2.4" "19 if the last record names another one"
+        BackRecordKept TakeBack "2.5" "record U - 1 left in place"
+        BackStartOnly TakeBack "2.5" "only bytes 0-3 of the record cleared"
+        BackNextKept TakeBack "2.5" "bytes 4-7 of the record not cleared"
+        BackHeadTaken TakeBack "2.6" "U = 1 not refused: the head's zero link names record 0, which is cleared"
+        BackOneNothing TakeBack "2.6" "U = 1 is no refusal and changes nothing"
+        BackOneIsOne TakeBack "2.6" "U = 1 is 1"
+        BackOneFirst TakeBack "02, 2" "19 for U = 1 before 1 for length and text"
+        BackNoneUsed TakeBack "02, 2" "U = 0 is 19"
+        BackLinkKept TakeBack "02, 2" "naming link not zeroed"
+        BackHandedOn TakeBack "02, 2" "naming link set to the record's own next link"
+        BackUsedKept TakeBack "02, 2" "U not lowered"
+        BackLowered TakeBack "02, 2" "U lowered first, and record U - 2 taken for the last"
+        BackZeroedRefused TakeBack "02, 2" "a naming link zeroed although the call is refused"
+        BackUnusedCleared TakeBack "02, 2" "all records from U - 1 on cleared"
+        BackSound TakeBack "02, 2" "an archive that audit refuses is 17"
         LowerGoesOn Program "75!" "2 or 3 below a measure leads on to the next measure"
         FixedStore Program "81!" "no more Q lines than 2,048 records"
         SixSkips Program "79" "6 leads on to the next plant"
@@ -399,6 +443,36 @@ slips! {
         DueListEnds DeliveryDay "F 16" "list read up to a 0"
         DueListNarrow DeliveryDay "F 16" "days of the list cut to 16 bits"
         DueListTested DeliveryDay "F 16" "a listed 0 or a day past January 2100 is 18"
+        BackAllOfSeveral TakeBack "F 17" "several naming links all zeroed"
+        BackKindZero TakeBack "F 17" "kind 0 taken for a known kind with a link in bytes 4-7"
+        BackKindSix TakeBack "F 17" "kind 6 taken for a known kind with a link in bytes 4-7"
+        BackFieldsPoint TakeBack "F 17" "bytes 8-15 of kind 2 taken for links"
+        BackFieldsQuarters TakeBack "F 17" "bytes 8-15 of kinds 4 and 5 taken for links"
+        BackDates TakeBack "F 17" "bytes 16-19 of kinds 1 and 3 taken for a link"
+        BackNarrowThree TakeBack "F 17" "only the low 24 bits of a link compared"
+        BackNextOfOwners TakeBack "F 17" "bytes 4-7 of kinds 1 and 3 not taken for a link"
+        BackNextOfOthers TakeBack "F 17" "bytes 4-7 of kinds 2, 4 and 5 not taken for a link"
+        BackKinds TakeBack "F 17" "3 for an unknown kind of any used record"
+        BackQuartersOnly TakeBack "F 17" "19 unless the last record is a quarter"
+        BackKindOnly TakeBack "F 17" "only byte 0 of the record cleared"
+        BackHalf TakeBack "F 17" "bytes 16-31 of the record not cleared"
+        BackKnownBytes TakeBack "F 17" "bytes 24-31 of the record not cleared"
+        BackKindKept TakeBack "F 17" "byte 0 of the record not cleared"
+        BackTwoRefused TakeBack "F 17" "U = 2 is 19"
+        BackTextLast TakeBack "F 17" "19 before 1 for the text"
+        BackAtUsed TakeBack "F 17" "record U taken for the last"
+        BackLowByte TakeBack "F 17" "only the low byte of the naming link zeroed"
+        BackBorrow TakeBack "F 17" "only the low byte of U lowered"
+        BackClearedRefused TakeBack "F 17" "record U - 1 cleared although the call is refused with 19"
+        BackLoweredRefused TakeBack "F 17" "U lowered although the call is refused with 19"
+        BackSoundNineteen TakeBack "F 17" "an archive that audit refuses is 19"
+        BackAudited TakeBack "F 17" "an archive that audit refuses has audit's number"
+        BackNextOfPlants TakeBack "F 17" "bytes 4-7 of kind 1 not taken for a link"
+        BackNextOfPoints TakeBack "F 17" "bytes 4-7 of kind 2 not taken for a link"
+        BackNextOfBefores TakeBack "F 17" "bytes 4-7 of kind 4 not taken for a link"
+        BackPointPower TakeBack "F 17" "bytes 12-15 of kind 2 taken for a link"
+        BackBeforeFree TakeBack "F 17" "bytes 12-15 of kind 4 taken for a link"
+        BackNominal TakeBack "F 17" "bytes 16-19 of kind 1 taken for a link"
         FiveEnds Program "F 12" "5 ends the program"
         FiveLine Program "F 12" "a line for 5"
         FourLine Program "F 12" "a line for 4"
@@ -1420,6 +1494,237 @@ fn append_place(slip: Slip, archive: &[u8], owner: u64, new: &[u8]) -> Result<(u
         Some(&last) if !is(Slip::FirstLink) && !is(Slip::AtFront) => (used, last, NEXT),
         _ => (used, owner, first),
     })
+}
+
+/// A link by its holder's number and its place there.
+type Name = (u64, usize);
+
+/// Taking back with one slip.
+pub fn take_back(slip: Slip, archive: &mut [u8]) -> Refusal {
+    let is = |other: Slip| slip == other;
+    if is(Slip::BackOneNothing) && head(slip, archive) == Ok(1) {
+        return 0;
+    }
+    let (used, last, named) = match named_last(slip, archive) {
+        Ok(found) => found,
+        Err(number) => return number,
+    };
+    let mut zero = |&(number, at): &Name| {
+        let start = number as usize * RECORD + at;
+        archive[start..start + if is(Slip::BackLowByte) { 1 } else { 4 }].fill(0);
+    };
+    let refused = match slip {
+        Slip::BackEndsAtFirst | Slip::BackLastOfSeveral | Slip::BackAllOfSeveral => named.is_empty(),
+        Slip::BackNoneAccepted => named.len() > 1,
+        Slip::BackByRecord => named.is_empty() || named.iter().any(|name| name.0 != named[0].0),
+        _ => named.len() != 1,
+    };
+    let zeroed = match slip {
+        _ if named.is_empty() => &named[..],
+        Slip::BackLastOfSeveral => &named[named.len() - 1..],
+        Slip::BackAllOfSeveral | Slip::BackByRecord => &named[..],
+        _ => &named[..1],
+    };
+    if !is(Slip::BackLinkKept) && (!refused || is(Slip::BackZeroedRefused)) {
+        zeroed.iter().for_each(&mut zero);
+    }
+    let place = last as usize * RECORD;
+    if is(Slip::BackHandedOn) && !refused {
+        let next = archive[place + NEXT..place + NEXT + 4].to_vec();
+        let start = zeroed[0].0 as usize * RECORD + zeroed[0].1;
+        archive[start..start + 4].copy_from_slice(&next);
+    }
+    if !refused || is(Slip::BackClearedRefused) {
+        let (first, end) = match slip {
+            Slip::BackRecordKept => (0, 0),
+            Slip::BackKindOnly => (0, 1),
+            Slip::BackStartOnly | Slip::BackNextKept => (0, 4),
+            Slip::BackHalf => (0, 16),
+            Slip::BackKnownBytes => (0, 24),
+            Slip::BackKindKept => (1, RECORD),
+            Slip::BackUnusedCleared => (0, archive.len() - place),
+            _ => (0, RECORD),
+        };
+        if place + end <= archive.len() {
+            archive[place + first..place + end].fill(0);
+        }
+        if is(Slip::BackNextKept) {
+            archive[place + 8..place + RECORD].fill(0);
+        }
+    }
+    if (!refused && !is(Slip::BackUsedKept)) || (refused && is(Slip::BackLoweredRefused)) {
+        let later = (used as u32).wrapping_sub(1).to_le_bytes();
+        let bytes = if is(Slip::BackBorrow) { 1 } else { 4 };
+        archive[4..4 + bytes].copy_from_slice(&later[..bytes]);
+    }
+    if refused {
+        19
+    } else {
+        0
+    }
+}
+
+/// The tests before the count: gives U, the last record and the links that name it.
+fn named_last(slip: Slip, archive: &[u8]) -> Result<(u64, u64, Vec<Name>), Refusal> {
+    let is = |other: Slip| slip == other;
+    if is(Slip::BackOneFirst) && archive.len() >= 8 {
+        test(link(archive, 4) != 1, 19)?;
+    }
+    if is(Slip::BackNoneUsed) && archive.len() >= 8 {
+        test(link(archive, 4) != 0, 19)?;
+    }
+    if is(Slip::BackTextLast) && archive.len() >= RECORD {
+        let mut titled = archive.to_vec();
+        titled[..4].copy_from_slice(b"AARB");
+        test(crate::take_back(&mut titled) != 19, 19)?;
+    }
+    let used = head(slip, archive)?;
+    if is(Slip::BackOneIsOne) {
+        test(used != 1, 1)?;
+    }
+    let least = match slip {
+        Slip::BackHeadTaken => 1,
+        Slip::BackTwoRefused | Slip::BackLowered => 3,
+        _ => 2,
+    };
+    test(used >= least, 19)?;
+    let last = match slip {
+        Slip::BackLowered => used - 2,
+        Slip::BackAtUsed => used,
+        _ => used - 1,
+    };
+    match slip {
+        Slip::BackSound => test(crate::audit(archive) == 0, 17)?,
+        Slip::BackSoundNineteen => test(crate::audit(archive) == 0, 19)?,
+        Slip::BackAudited => test(crate::audit(archive) == 0, crate::audit(archive))?,
+        _ => {}
+    }
+    let kind_of = |number: u64| record(archive, number)[0];
+    let known = |number: u64| (1..=5).contains(&kind_of(number));
+    if is(Slip::BackKinds) {
+        test((1..used).all(known), 3)?;
+    }
+    match slip {
+        Slip::BackUnknownRefused => test(known(last), 19)?,
+        Slip::BackUnknownThree => test(known(last), 3)?,
+        Slip::BackQuartersOnly => test(kind_of(last) == QUARTER, 19)?,
+        _ => {}
+    }
+
+    let reached = if is(Slip::BackReached) { reached(archive, used) } else { Vec::new() };
+    let end = if is(Slip::BackUnusedCounted) { (archive.len() / RECORD) as u64 } else { used };
+    let mut named = Vec::new();
+    for number in 0..end {
+        for (at, kind) in counted(slip, number, kind_of(number)) {
+            let to = link(record(archive, number), at);
+            let to = match slip {
+                Slip::BackNarrow => to & 0xffff,
+                Slip::BackNarrowThree => to & 0xff_ffff,
+                // U, lowered already.
+                _ if (number, at) == (0, NEXT) => to - 1,
+                _ => to,
+            };
+            let counts = match slip {
+                Slip::BackRightKind => kind == kind_of(last),
+                Slip::BackReached => reached[number as usize],
+                Slip::BackOwnUncounted => number != last,
+                _ => true,
+            };
+            if to == last && counts {
+                named.push((number, at));
+            }
+        }
+    }
+    let own = named.iter().filter(|name| name.0 == last).count();
+    match slip {
+        Slip::BackOwnRefused => test(own == 0, 19)?,
+        Slip::BackOwnVanishes if own < named.len() => named.retain(|name| name.0 != last),
+        Slip::BackOwnOnce if own > 1 => named.truncate(named.len() - own + 1),
+        _ => {}
+    }
+    let number = match slip {
+        Slip::BackHoldsTwo => 2,
+        Slip::BackHoldsSeventeen => 17,
+        Slip::BackHoldsNineteen => 19,
+        _ => return Ok((used, last, named)),
+    };
+    test(named.len() == 1, 19)?;
+    let names_another = |&(at, _): &(usize, u8)| {
+        let to = link(record(archive, last), at);
+        to != 0 && (is(Slip::BackHoldsTwo) || to != last)
+    };
+    test(!counted(slip, last, kind_of(last)).iter().any(names_another), number)?;
+    Ok((used, last, named))
+}
+
+/// The links that taking back looks at in a record, with the kind that each should lead to.
+fn counted(slip: Slip, number: u64, kind: u8) -> Vec<(usize, u8)> {
+    let is = |other: Slip| slip == other;
+    if number == 0 {
+        return match slip {
+            Slip::BackHeadUncounted => vec![],
+            Slip::BackHeadSecond => vec![(FIRST, PLANT), (SECOND, PLANT)],
+            Slip::BackHeadUsed => vec![(NEXT, PLANT), (FIRST, PLANT)],
+            _ => vec![(FIRST, PLANT)],
+        };
+    }
+    let owner = kind == PLANT || kind == MEASURE;
+    let known = (1..=5).contains(&kind);
+    let next = match slip {
+        Slip::BackNextUncounted => false,
+        Slip::BackNextOfOwners => known && !owner,
+        Slip::BackNextOfOthers => owner,
+        Slip::BackNextOfPlants => known && kind != PLANT,
+        Slip::BackNextOfPoints => known && kind != POINT,
+        Slip::BackNextOfBefores => known && kind != BEFORE,
+        Slip::BackUnknownCounted => true,
+        Slip::BackKindZero => known || kind == 0,
+        Slip::BackKindSix => known || kind == 6,
+        _ => known,
+    };
+    let both = match slip {
+        Slip::BackUnknownLinks => owner || !known,
+        Slip::BackFields => known,
+        Slip::BackFieldsPoint => owner || kind == POINT,
+        Slip::BackFieldsQuarters => known && kind != POINT,
+        _ => owner,
+    };
+    let first =
+        both && !(is(Slip::BackCurveUncounted) && kind == PLANT || is(Slip::BackBeforeUncounted) && kind == MEASURE);
+    let second = both
+        && !(is(Slip::BackMeasuresUncounted) && kind == PLANT || is(Slip::BackQuartersUncounted) && kind == MEASURE)
+        || is(Slip::BackPointPower) && kind == POINT
+        || is(Slip::BackBeforeFree) && kind == BEFORE;
+    let mut links = Vec::new();
+    let mut add = |wanted: bool, at: usize, to: u8| {
+        if wanted {
+            links.push((at, to));
+        }
+    };
+    add(next, NEXT, kind);
+    add(first, FIRST, kind.wrapping_add(1));
+    add(second, SECOND, kind.wrapping_add(2));
+    add(owner && is(Slip::BackDates) || kind == PLANT && is(Slip::BackNominal), DATE, 0);
+    links
+}
+
+/// Which used records the head's chains reach, as far as links are allowed and lead to the right kind.
+fn reached(archive: &[u8], used: u64) -> Vec<bool> {
+    let mut reached = vec![false; used as usize];
+    reached[0] = true;
+    // Links lead upward, so that one pass is enough.
+    for number in 0..used {
+        if !reached[number as usize] {
+            continue;
+        }
+        for (at, kind) in counted(Slip::None, number, record(archive, number)[0]) {
+            let to = link(record(archive, number), at);
+            if to != 0 && follow(archive, used, number, to, kind).is_ok() {
+                reached[to as usize] = true;
+            }
+        }
+    }
+    reached
 }
 
 /// Audit with one slip.

@@ -1,5 +1,5 @@
-//! Document 01's own figures and examples, request 1's dates, `fast` and the slips against the plain modules, and
-//! read-back.
+//! Document 01's own figures and examples, request 1's dates, request 2's taking back, `fast` and the slips against the
+//! plain modules, and read-back.
 
 use crate::archive::{link, record, used, FIRST, NEXT, RECORD, SECOND};
 use crate::builder::*;
@@ -8,8 +8,11 @@ use crate::generate::{self, Call};
 use crate::rng::Rng;
 use crate::settle::{curve_power, factor};
 use crate::sha256::sha256;
-use crate::slips::{self, Of, Slip, SLIPS};
-use crate::{append, audit, delivery_day, fast, fresh, host_delivery_day, host_settle, program, settle, show, Answer};
+use crate::slips::{self, Of, Slip, FURTHER, SLIPS};
+use crate::{
+    append, audit, delivery_day, fast, fresh, host_delivery_day, host_settle, program, settle, show, take_back,
+};
+use crate::{filing, Answer};
 
 fn quiet() -> Rng {
     Rng::new(0, 0)
@@ -443,6 +446,176 @@ fn late_dates() {
     }
 }
 
+/// Taking back, the same in all implementations; a refusal changes nothing, and else only the record, the link and U.
+fn taken_back(archive: &mut Vec<u8>) -> u32 {
+    let before = archive.clone();
+    let (mut other, mut third) = (before.clone(), before.clone());
+    let number = take_back(archive);
+    assert_eq!(number, fast::take_back(&mut other));
+    assert_eq!(number, slips::take_back(Slip::None, &mut third));
+    assert!(*archive == other && *archive == third);
+    if number != 0 {
+        assert!(*archive == before);
+        return number;
+    }
+    let last = used(&before).unwrap() - 1;
+    let names = filing::names(&before, last + 1, last);
+    assert_eq!((names.len(), used(archive)), (1, Ok(last)));
+    let mut expected = before;
+    expected[last as usize * RECORD..][..RECORD].fill(0);
+    expected[names[0].0 as usize * RECORD + names[0].1..][..4].fill(0);
+    expected[4..8].copy_from_slice(&(last as u32).to_le_bytes());
+    assert!(*archive == expected);
+    0
+}
+
+/// Case a: 1 the plant, 2 the measure, 3 the before-quarter, 4 to 6 the quarters.
+#[test]
+fn take_back_examples() {
+    let good = file(&[case_a()], &Layout { spare: 1, ..Layout::PLAIN }, &mut quiet());
+    assert_eq!((good.used, audit(&good.bytes)), (7, 0));
+    // What is wanted of case a with some links, and with kinds of some records, set to other values.
+    let call = |links: &[(u64, usize, u32)], kinds: &[(u64, u8)]| {
+        let mut filed = good.clone();
+        links.iter().for_each(|&(number, at, to)| filed.set_link(number, at, to));
+        kinds.iter().for_each(|&(number, kind)| *filed.byte(number, 0) = kind);
+        taken_back(&mut filed.bytes)
+    };
+    assert_eq!(call(&[], &[]), 0);
+    // 1, and 1 before 19.
+    for length in [0, 31, 33, 7 * RECORD - 1] {
+        assert_eq!(taken_back(&mut good.bytes[..length].to_vec()), 1);
+    }
+    assert_eq!(call(&[(0, 4, 0)], &[]), 1);
+    assert_eq!(call(&[(0, 4, 9)], &[]), 1);
+    assert_eq!(call(&[(0, 4, 1)], &[(0, b'B')]), 1);
+    // 2.6: U is 1, whatever the head's link; zero names nothing.
+    assert_eq!(call(&[(0, 4, 1)], &[]), 19);
+    assert_eq!(call(&[(0, 4, 1), (0, FIRST, 0)], &[]), 19);
+    // U is 2: the head's link alone counts.
+    assert_eq!(call(&[(0, 4, 2)], &[]), 0);
+    // Named by none, by two.
+    assert_eq!(call(&[(5, NEXT, 0)], &[]), 19);
+    assert_eq!(call(&[(4, NEXT, 6)], &[]), 19);
+    assert_eq!(call(&[(0, FIRST, 6)], &[]), 19);
+    // 2.1: by value alone: a link for another kind, of a record on no chain; not of an unknown kind, not in a field,
+    // not in an unused record.
+    for (number, at) in [(0, FIRST), (1, NEXT), (1, FIRST), (1, SECOND), (2, NEXT), (2, FIRST), (2, SECOND), (3, NEXT)]
+    {
+        assert_eq!(call(&[(5, NEXT, 0), (number, at, 6)], &[]), 0);
+    }
+    assert_eq!(call(&[(4, NEXT, 0)], &[]), 0);
+    assert_eq!(call(&[], &[(5, 6)]), 19);
+    assert_eq!(call(&[(4, NEXT, 6)], &[(4, 0)]), 0);
+    assert_eq!(call(&[(3, 8, 6), (4, 12, 6), (1, 16, 6), (0, SECOND, 6), (7, NEXT, 6)], &[(7, 5)]), 0);
+    assert_eq!(call(&[(4, NEXT, 65_542), (1, NEXT, 6 + (1 << 24))], &[]), 0);
+    // 2.2: its own links.
+    assert_eq!(call(&[(5, NEXT, 0), (6, NEXT, 6)], &[]), 0);
+    assert_eq!(call(&[(6, NEXT, 6)], &[]), 19);
+    for at in [NEXT, FIRST, SECOND] {
+        for kind in [1, 3] {
+            assert_eq!(call(&[(5, NEXT, 0), (6, FIRST, 0), (6, SECOND, 0), (6, at, 6)], &[(6, kind)]), 0);
+        }
+    }
+    assert_eq!(call(&[(5, NEXT, 0), (6, FIRST, 6), (6, SECOND, 6)], &[(6, 3)]), 19);
+    // 2.3: its own kind; own links of an unknown kind don't count.
+    for kind in [0, 6, 255] {
+        assert_eq!(call(&[(6, NEXT, 6), (6, FIRST, 6)], &[(6, kind)]), 0);
+    }
+    // 2.4: its other links.
+    assert_eq!(call(&[(6, NEXT, 4)], &[]), 0);
+    assert_eq!(call(&[(6, NEXT, 7), (6, FIRST, 1), (6, SECOND, u32::MAX)], &[(6, 3)]), 0);
+}
+
+/// Records filed and taken back in turns, a few more filed than taken: each taking back gives the archive before the
+/// filing that it undoes, byte for byte, and every archive on the way is sound. At the end all are taken back.
+#[test]
+fn filed_and_taken_back() {
+    for seed in 0..60 {
+        let mut rng = Rng::new(21, seed);
+        let mut archive = rng.bytes(RECORD * 40);
+        assert_eq!(fresh(&mut archive), 0);
+        let mut earlier = vec![archive.clone()];
+        for _ in 0..400 {
+            if rng.chance(45) {
+                let number = taken_back(&mut archive);
+                if earlier.len() == 1 {
+                    assert_eq!(number, 19);
+                } else {
+                    earlier.pop();
+                    assert_eq!(number, 0);
+                }
+                assert!(archive == earlier[earlier.len() - 1]);
+            } else {
+                let kind = 1 + rng.below(5) as u8;
+                let mut new = rng.bytes(RECORD);
+                new[0] = kind;
+                new[4..if kind == 1 || kind == 3 { 16 } else { 8 }].fill(0);
+                let owner = if kind == 1 { 0 } else { rng.word() % used(&archive).unwrap() };
+                if append(&mut archive, owner, &new) == 0 {
+                    earlier.push(archive.clone());
+                }
+            }
+            assert_eq!(audit(&archive), 0);
+        }
+        while earlier.len() > 1 {
+            assert!(archive == earlier.pop().unwrap());
+            assert_eq!(taken_back(&mut archive), 0);
+        }
+        let mut new = vec![7; RECORD * 40];
+        assert_eq!(fresh(&mut new), 0);
+        assert!(archive == new);
+        assert_eq!(taken_back(&mut archive), 19);
+    }
+}
+
+/// Request 2's sentence over generated archives and records: if audit finds the earlier archive sound and the place is
+/// all zero. With other bytes at the place these are zero afterwards, and nothing else differs.
+#[test]
+fn append_then_take_back() {
+    let (mut zero, mut old, mut unsound) = (0, 0, 0);
+    for index in 0..40_000 {
+        if let Call::Append { archive, owner, record } = generate::call(8, index).call {
+            let mut later = archive.clone();
+            if append(&mut later, owner, &record) != 0 {
+                continue;
+            }
+            if audit(&archive) != 0 {
+                unsound += u32::from(taken_back(&mut later) == 19);
+                continue;
+            }
+            assert_eq!(taken_back(&mut later), 0);
+            let place = used(&archive).unwrap() as usize * RECORD;
+            let mut expected = archive.clone();
+            expected[place..place + RECORD].fill(0);
+            *(if expected == archive { &mut zero } else { &mut old }) += 1;
+            assert!(later == expected);
+        }
+    }
+    assert!(zero > 50 && old > 50 && unsound > 5, "{zero} {old} {unsound}");
+}
+
+/// A sound archive stays sound down to its head.
+#[test]
+fn sound_stays_sound() {
+    let mut rounds = 0;
+    for index in 0..6_000 {
+        if let Call::Audit { archive } | Call::TakeBack { archive } = generate::call(4, index).call {
+            let mut archive = archive;
+            if archive.len() > RECORD * 300 || audit(&archive) != 0 {
+                continue;
+            }
+            for left in (1..used(&archive).unwrap()).rev() {
+                assert_eq!((taken_back(&mut archive), audit(&archive)), (0, 0));
+                assert_eq!(used(&archive), Ok(left));
+                rounds += 1;
+            }
+            assert_eq!(taken_back(&mut archive), 19);
+        }
+    }
+    assert!(rounds > 3_000, "{rounds}");
+}
+
 /// What the program prints; the same in both implementations.
 fn printed(input: &[u8]) -> String {
     let (mut out, mut other) = (Vec::new(), Vec::new());
@@ -568,6 +741,7 @@ fn agree(seed: u64, index: u64) {
         }
         Call::Fresh { mut archive } => Some(fresh(&mut archive)),
         Call::DeliveryDay { quarter, holidays } => Some(due(quarter, &holidays).err().unwrap_or(0)),
+        Call::TakeBack { mut archive } => Some(taken_back(&mut archive)),
     };
     if case.expected.is_some() {
         assert_eq!(case.expected, number, "made for this number: {index}");
@@ -581,10 +755,11 @@ fn fast_agrees() {
     }
 }
 
-/// Every slip shows somewhere in a few thousand calls of its kind.
+/// Every slip shows somewhere in a few thousand calls of its kind, of taking back the further ones too.
 #[test]
 fn slips_show() {
-    let mut open: Vec<(Slip, Of)> = SLIPS.iter().map(|&(slip, of, _, _)| (slip, of)).collect();
+    let further = FURTHER.iter().filter(|&&(_, of, _, _)| of == Of::TakeBack);
+    let mut open: Vec<(Slip, Of)> = SLIPS.iter().chain(further).map(|&(slip, of, _, _)| (slip, of)).collect();
     for index in 0..60_000 {
         if index < 4_000 {
             let input = generate::input(3, index);
@@ -626,6 +801,14 @@ fn slips_show() {
                     (slips::delivery_day(slip, quarter, &holidays, &mut day), day)
                 };
                 open.retain(|&(slip, of)| of != Of::DeliveryDay || run(slip) == run(Slip::None));
+            }
+            Call::TakeBack { archive } => {
+                let run = |slip| {
+                    let mut archive = archive.clone();
+                    (slips::take_back(slip, &mut archive), archive)
+                };
+                let right = run(Slip::None);
+                open.retain(|&(slip, of)| of != Of::TakeBack || run(slip) == right);
             }
         }
     }

@@ -97,6 +97,11 @@ fn append_call(archive: &mut [u8], owner: u64, new: &[u8]) -> Answer {
     number_only(number, sum_of_bytes(archive))
 }
 
+fn take_back_call(archive: &mut [u8]) -> Answer {
+    let number = takeback::take_back(archive);
+    number_only(number, sum_of_bytes(archive))
+}
+
 fn fresh_call(archive: &mut [u8]) -> Answer {
     let number = filing::fresh(archive);
     number_only(number, sum_of_bytes(archive))
@@ -193,6 +198,9 @@ fn answer_to(call: Call, archive: &mut [u8], new: &[u8], list: &mut [i64]) -> An
     }
     if call.name == 6 {
         return delivery_call(call.first, new);
+    }
+    if call.name == 7 {
+        return take_back_call(archive);
     }
     fresh_call(archive)
 }

@@ -4,7 +4,7 @@ ghost use Prim.Native.Nat.{_/_, _≤_, min};
 ghost use lib.ListN.{length};
 ghost use mathlib.Core.List.{_++_};
 ghost use Rattle.rules.specs.Encoding.{doubleWord};
-ghost use Rattle.rules.specs.Promises.{HostSettles, Freshens, Appends, Audits, Delivers};
+ghost use Rattle.rules.specs.Promises.{HostSettles, Freshens, Appends, TakesBack, Audits, Delivers};
 ghost use Rattle.host.specs.Shown.{shownPlace};
 use calendar::Delivery;
 use prepare::Prepared;
@@ -104,6 +104,14 @@ pub extern "C" fn sandegmur_append(archive: &mut [u8], owner: u64, new: &[u8]) -
     ensures { λ r. ⌜ Appends (now (archive .entry)) owner (now (new .entry)) (now (archive .exit)) r ⌝ }
 {
     filing::append(archive, owner, new) as u32
+}
+
+// The last record taken back (document 02, 2).
+#[no_mangle]
+pub extern "C" fn sandegmur_take_back(archive: &mut [u8]) -> u32
+    ensures { λ r. ⌜ TakesBack (now (archive .entry)) (now (archive .exit)) r ⌝ }
+{
+    takeback::take_back(archive) as u32
 }
 
 #[no_mangle]

@@ -1,9 +1,8 @@
 -- Append: what a call that isn't refused met and wrote; on a sound archive it leaves a sound one.
 use mathlib.Core.Path.{_≡_, refl, sym, _∙_, ap, ap₂, subst}
 use mathlib.Core.Bool.{Bool, true, false, cond}
-use mathlib.Core.List.{List, [], _∷_, _++_, map, List·Memᴰ, List·Memᴰ·head, List·Memᴰ·tail, List·Memᴰ·not-nil, Memᴰ·cast}
-use mathlib.Core.Logic.{_⊎_, inl, inr}
-use Prim.Native.Nat.{ℕ, zero, suc, _+_, _*_, _/_, _≤_, _<_}
+use mathlib.Core.List.{List, [], _∷_, _++_, map, List·Memᴰ, List·Memᴰ·head, List·Memᴰ·tail, List·Memᴰ·not-nil}
+use Prim.Native.Nat.{ℕ, _+_, _*_, _/_, _≤_, _<_}
 use native.Mathlib.Omega.{arith}
 use native.Mathlib.Numerals.{add-one}
 use lib.Dec.{eqb, ltb}
@@ -11,16 +10,16 @@ use lib.ListN.{length}
 use borrow.Author.Tests.{eqb-true, eqb-false, eq-eqb, ne-eqb, ltb-true}
 use Rattle.rules.specs.Outcome.{given}
 use Rattle.rules.specs.Numbers.{keep, all}
-use Rattle.rules.specs.Archive.{byteAt, linkAt, kindOf, recordAt, isText, usedOf, chain}
-use Rattle.rules.specs.Links.{Link, link, isKind, headLinks, linksOf, ownedAt, linksAt, standsAt, linkPlaces, namers}
+use Rattle.rules.specs.Archive.{linkAt, kindOf, recordAt, usedOf, chain}
+use Rattle.rules.specs.Links.{Link, link, isKind, linksOf, ownedAt, linksAt, standsAt, linkPlaces, namers}
 use Rattle.rules.specs.Filing.{newAllowed, offsetIn, offsetFor, lastPlace, appendAfter, append}
-use Rattle.rules.proofs.Bytes.{byte-of, link-of}
-use Rattle.rules.proofs.Lists.{keep-same, keep-none, keep-append, apart-two, apart-once, apart-within, of-map}
-use Rattle.rules.proofs.Places.{SameStart, owned-same, links-same, places-apart, at-within, owned-in, one-place, next-in, stands-in, in-stands, place-low, Stands}
+use Rattle.rules.proofs.Bytes.{link-of}
+use Rattle.rules.proofs.Lists.{keep-same, keep-none, keep-append, apart-once, of-map}
+use Rattle.rules.proofs.Places.{places-apart, at-within, owned-in, one-place, next-in, stands-in, in-stands, Stands}
 use Rattle.rules.proofs.Inversion.{given-inj}
 use Rattle.rules.proofs.Sound.{bind-both, required, both, Head, used-head, whole-length, Leads, ends, leads, Stored, Well}
 use Rattle.rules.proofs.Runs.{Runs, lastAt, last-is, chain-runs, last-ends}
-use Rattle.rules.proofs.Write.{Wrote, wrote}
+use Rattle.rules.proofs.Write.{Wrote, wrote, place-in, text-kept, kind-kept, links-kept, places-kept, link-kept}
 
 -- ---- the new record
 
@@ -101,16 +100,12 @@ append-says archive owner new after e =
 
 -- the last link of the chain, as a link of the archive
 pub record Last (archive : List ℕ) (used kind place : ℕ) : Type 0 where
-  pub holder : ℕ
-  pub of : Link
-  pub below : holder < used
-  pub has : List·Memᴰ of (linksAt archive holder)
-  pub is : place ≡ standsAt holder of
-  pub to : of .to ≡ kind
+  pub stands : Stands archive used place
+  pub to : stands .of .to ≡ kind
 
 last-link : (archive : List ℕ) (used kind holder : ℕ) (l : Link) (ns : List ℕ) → isKind kind ≡ true → holder < used → List·Memᴰ l (linksAt archive holder) → l .to ≡ kind
     → Runs archive used kind holder (standsAt holder l) ns → Last archive used kind (lastAt (standsAt holder l) ns)
-last-link archive used kind holder l [] k h m e r = record { holder = holder; of = l; below = h; has = m; is = refl; to = e }
+last-link archive used kind holder l [] k h m e r = record { stands = record { holder = holder; of = l; below = h; has = m; is = refl }; to = e }
 last-link archive used kind holder l (n ∷ ns) k h m e r =
     let above = r .1 in
     last-link archive used kind n (link 4 (kindOf (recordAt archive n))) ns k (r .2) (next-in archive n (omega arith) (ap isKind (r .3) ∙ k)) (r .3) (r .4)
@@ -133,9 +128,6 @@ module _ (archive : List ℕ) (owner : ℕ) (new after : List ℕ) (a : Appendin
       last-link archive usedBefore (kindOf new) owner (link (a .offset) (kindOf new)) (a .passed) (a .fresh-new .known) (owned .below)
       (owned-in archive owner (link (a .offset) (kindOf new)) (owned .has)) refl (a .runs)
 
-  pub place-in : List·Memᴰ linkPlace (linkPlaces archive usedBefore)
-  place-in = Memᴰ·cast (last .is) (stands-in archive usedBefore (last .holder) (last .of) (last .below) (last .has))
-
   pub place-zero : linkAt archive linkPlace ≡ 0
   place-zero = last-ends archive usedBefore (kindOf new) owner startPlace (a .passed) (a .runs)
 
@@ -145,75 +137,12 @@ module _ (archive : List ℕ) (owner : ℕ) (new after : List ℕ) (a : Appendin
       let f = a .free in
       omega arith
 
-  pub writing : Wrote archive usedBefore linkPlace new after
+  pub writing : Wrote archive usedBefore linkPlace new usedBefore (usedBefore + 1) after
+  unfolding appendAfter
   writing =
-      let w = at-within archive (last .holder) (last .of) (last .has) in
-      let p = place-low archive (last .holder) (last .of) (last .has) in
-      let e = last .is in
-      let b = last .below in
-      subst (λ (x : List ℕ). Wrote archive usedBefore linkPlace new x) (a .after-is)
-      (wrote archive usedBefore linkPlace new (a .fresh-new .size) (rw e p) (omega arith) (room .0) (room .1))
-
-  -- ---- what stays
-
-  pub byte-kept : (n i : ℕ) → n < usedBefore → i < 32 → (n ≡ 0 → i < 4) → (n ≡ last .holder → (i < last .of .at) ⊎ (last .of .at + 4 ≤ i))
-      → byteAt (recordAt after n) i ≡ byteAt (recordAt archive n) i
-  byte-kept n i h k z o =
-      byte-of after n i k
-      ∙ writing .bytes (32 * n + i) (count (eqb n 0) refl) (around (eqb n (last .holder)) refl) (inl (omega arith))
-      ∙ sym (byte-of archive n i k)
-    where
-      count : (t : Bool) → eqb n 0 ≡ t → (32 * n + i < 4) ⊎ (8 ≤ 32 * n + i)
-      count true e = let d = eqb-true n 0 e in let j = z d in inl (omega arith)
-      count false e = inr (omega (arith, eqb-false n 0 e))
-
-      within : (4 ≤ last .of .at) × (last .of .at + 4 ≤ 32)
-      within = at-within archive (last .holder) (last .of) (last .has)
-
-      place-is : linkPlace ≡ 32 * (last .holder) + last .of .at
-      place-is = last .is
-
-      beside : (n ≡ last .holder → ⊥) → (t : Bool) → ltb n (last .holder) ≡ t → (32 * n + i < linkPlace) ⊎ (linkPlace + 4 ≤ 32 * n + i)
-      beside d true e = let j = ltb-true n (last .holder) e in inl (omega (arith, within, place-is))
-      beside d false e = let j = borrow.Author.Tests.ltb-false n (last .holder) e in inr (omega (arith, within, place-is, d))
-
-      inside : n ≡ last .holder → (i < last .of .at) ⊎ (last .of .at + 4 ≤ i) → (32 * n + i < linkPlace) ⊎ (linkPlace + 4 ≤ 32 * n + i)
-      inside d (inl j) = inl (omega (arith, place-is))
-      inside d (inr j) = inr (omega (arith, place-is))
-
-      around : (t : Bool) → eqb n (last .holder) ≡ t → (32 * n + i < linkPlace) ⊎ (linkPlace + 4 ≤ 32 * n + i)
-      around true e = inside (eqb-true n (last .holder) e) (o (eqb-true n (last .holder) e))
-      around false e = beside (eqb-false n (last .holder) e) (ltb n (last .holder)) refl
-
-  first-kept : (n i : ℕ) → n < usedBefore → i < 4 → byteAt (recordAt after n) i ≡ byteAt (recordAt archive n) i
-  first-kept n i h k = byte-kept n i h (omega arith) (λ z. k) (λ z. inl (omega (arith, at-within archive (last .holder) (last .of) (last .has))))
-
-  pub start-kept : (n : ℕ) → n < usedBefore → SameStart (recordAt after n) (recordAt archive n)
-  start-kept n h = record { same = λ i k. first-kept n i h (omega arith) }
-
-  pub kind-kept : (n : ℕ) → n < usedBefore → kindOf (recordAt after n) ≡ kindOf (recordAt archive n)
-  kind-kept n h = start-kept n h .same 0 (omega arith)
-
-  pub links-kept : (n : ℕ) → n < usedBefore → linksAt after n ≡ linksAt archive n
-  unfolding linksAt
-  links-kept n h = ap (λ ls. cond (eqb n 0) headLinks ls) (links-same (recordAt after n) (recordAt archive n) (start-kept n h))
-
-  pub owned-kept : (n : ℕ) → n < usedBefore → ownedAt after n ≡ ownedAt archive n
-  unfolding ownedAt
-  owned-kept n h = ap (λ ls. cond (eqb n 0) headLinks ls) (owned-same (recordAt after n) (recordAt archive n) (start-kept n h))
-
-  pub places-kept : (n : ℕ) → n ≤ usedBefore → linkPlaces after n ≡ linkPlaces archive n
-  unfolding linkPlaces
-  places-kept zero h = refl
-  places-kept (suc n) h = rw (places-kept n (omega arith), links-kept n (omega arith))
-
-  pub link-kept : (q : ℕ) → List·Memᴰ q (linkPlaces archive usedBefore) → (q ≡ linkPlace → ⊥) → linkAt after q ≡ linkAt archive q
-  link-kept q m d =
-      let s = in-stands archive usedBefore q m in
-      let p = place-low archive (s .holder) (s .of) (s .has) in
-      let w = apart-within (32 * usedBefore) 0 q (linkPlaces archive usedBefore) (places-apart archive usedBefore) m in
-      writing .links q (rw (s .is) p)
-      (apart-two (32 * usedBefore) 0 q linkPlace (linkPlaces archive usedBefore) (places-apart archive usedBefore) m place-in d) (w .1)
+      subst (λ (x : List ℕ). Wrote archive usedBefore linkPlace new usedBefore (usedBefore + 1) x) (a .after-is)
+      (wrote archive usedBefore linkPlace new usedBefore (usedBefore + 1) (a .fresh-new .size) (last .stands) (room .0)
+      (omega (arith, room)) (omega (arith, room)))
 
   -- ---- the new record's own links
 
@@ -233,40 +162,37 @@ module _ (archive : List ℕ) (owner : ℕ) (new after : List ℕ) (a : Appendin
       let f = a .free in
       record {
         whole = rw (writing .long) (a .head .whole);
-        text = texts (recordAt after 0) (recordAt archive 0) (λ i. first-kept 0 i (a .head .some)) (a .head .text);
-        count = writing .count;
+        text = text-kept writing (a .head .text);
+        count = writing .counted;
         some = omega arith;
         room = rw (writing .long) (omega arith);
       }
-    where
-      texts : (r s : List ℕ) → ((i : ℕ) → i < 4 → byteAt r i ≡ byteAt s i) → isText s ≡ true → isText r ≡ true
-      texts r s h t = rw (h 0 (omega arith), h 1 (omega arith), h 2 (omega arith), h 3 (omega arith)) t
 
   module _ (well : Well archive usedBefore) where
     leads-after : (n : ℕ) (l : Link) → n < usedBefore → List·Memᴰ l (linksAt archive n) → Leads after (usedBefore + 1) n l
     leads-after n l h m = go (eqb (standsAt n l) linkPlace) refl (well .stored n h .links l m)
       where
         kept : (standsAt n l ≡ linkPlace → ⊥) → linkAt after (standsAt n l) ≡ linkAt archive (standsAt n l)
-        kept d = link-kept (standsAt n l) (stands-in archive usedBefore n l h m) d
+        kept d = link-kept writing (standsAt n l) (stands-in archive usedBefore n l h m) d
 
         go : (t : Bool) → eqb (standsAt n l) linkPlace ≡ t → Leads archive usedBefore n l → Leads after (usedBefore + 1) n l
         go true e x =
             let p = eqb-true (standsAt n l) linkPlace e in
-            let o = one-place archive n (last .holder) l (last .of) m (last .has) (p ∙ last .is) in
+            let o = one-place archive n (last .stands .holder) l (last .stands .of) m (last .stands .has) (p ∙ last .stands .is) in
             let v : linkAt after (standsAt n l) ≡ usedBefore = ap (linkAt after) p ∙ writing .named in
             leads (omega arith) (omega arith) (ap (λ (k : ℕ). kindOf (recordAt after k)) v ∙ ap kindOf (writing .filed) ∙ sym (last .to) ∙ ap (λ k. k .to) (sym (o .1)))
         go false e (ends z) = ends (kept (eqb-false (standsAt n l) linkPlace e) ∙ z)
         go false e (leads x y k) =
             let v = kept (eqb-false (standsAt n l) linkPlace e) in
-            leads (omega arith) (omega arith) (ap (λ (k : ℕ). kindOf (recordAt after k)) v ∙ kind-kept (linkAt archive (standsAt n l)) y ∙ k)
+            leads (omega arith) (omega arith) (ap (λ (k : ℕ). kindOf (recordAt after k)) v ∙ kind-kept writing (linkAt archive (standsAt n l)) y ∙ k)
 
     stored-after : (n : ℕ) → n < usedBefore + 1 → Stored after (usedBefore + 1) n
     stored-after n h = go (eqb n usedBefore) refl
       where
         old : n < usedBefore → Stored after (usedBefore + 1) n
         old h = record {
-          kind = λ z. ap isKind (kind-kept n h) ∙ well .stored n h .kind z;
-          links = λ l m. leads-after n l h (subst (λ ls. List·Memᴰ l ls) (links-kept n h) m);
+          kind = λ z. ap isKind (kind-kept writing n h) ∙ well .stored n h .kind z;
+          links = λ l m. leads-after n l h (subst (λ ls. List·Memᴰ l ls) (links-kept writing n h) m);
         }
 
         newest : Stored after (usedBefore + 1) usedBefore
@@ -278,7 +204,7 @@ module _ (archive : List ℕ) (owner : ℕ) (new after : List ℕ) (a : Appendin
 
     places-after : linkPlaces after (usedBefore + 1) ≡ linkPlaces archive usedBefore ++ map (standsAt usedBefore) (linksAt after usedBefore)
     unfolding linkPlaces
-    places-after = rw (add-one, places-kept usedBefore (omega arith))
+    places-after = rw (add-one, places-kept writing usedBefore (omega arith))
 
     -- the new record's links name nothing
     none-new : (n : ℕ) → 0 < n → keep (λ p. eqb (linkAt after p) n) (map (standsAt usedBefore) (linksAt after usedBefore)) ≡ []
@@ -313,19 +239,19 @@ module _ (archive : List ℕ) (owner : ℕ) (new after : List ℕ) (a : Appendin
                 let v : linkAt after q ≡ usedBefore = ap (linkAt after) p ∙ writing .named in
                 let w : linkAt archive q ≡ 0 = ap (linkAt archive) p ∙ place-zero in
                 ne-eqb (linkAt after q) n (λ i. d (sym i ∙ v)) ∙ sym (ne-eqb (linkAt archive q) n (λ i. omega arith))
-            by false e = ap (λ (x : ℕ). eqb x n) (link-kept q m (eqb-false q linkPlace e))
+            by false e = ap (λ (x : ℕ). eqb x n) (link-kept writing q m (eqb-false q linkPlace e))
 
         newest : n ≡ usedBefore → (q : ℕ) → List·Memᴰ q (linkPlaces archive usedBefore) → eqb (linkAt after q) n ≡ eqb q linkPlace
         newest d q m = by (eqb q linkPlace) refl
           where
             by : (t : Bool) → eqb q linkPlace ≡ t → eqb (linkAt after q) n ≡ t
             by true e = eq-eqb (linkAt after q) n (ap (linkAt after) (eqb-true q linkPlace e) ∙ writing .named ∙ sym d)
-            by false e = let k = link-kept q m (eqb-false q linkPlace e) in let b = below q m in ne-eqb (linkAt after q) n (λ i. omega arith)
+            by false e = let k = link-kept writing q m (eqb-false q linkPlace e) in let b = below q m in ne-eqb (linkAt after q) n (λ i. omega arith)
 
         go : (t : Bool) → eqb n usedBefore ≡ t → length (keep (λ p. eqb (linkAt after p) n) (linkPlaces archive usedBefore)) ≡ 1
         go true e =
             ap length (keep-same (λ p. eqb (linkAt after p) n) (λ p. eqb p linkPlace) (linkPlaces archive usedBefore) (newest (eqb-true n usedBefore e)))
-            ∙ apart-once (32 * usedBefore) 0 linkPlace (linkPlaces archive usedBefore) (places-apart archive usedBefore) place-in
+            ∙ apart-once (32 * usedBefore) 0 linkPlace (linkPlaces archive usedBefore) (places-apart archive usedBefore) (place-in writing)
         go false e =
             ap length (keep-same (λ p. eqb (linkAt after p) n) (λ p. eqb (linkAt archive p) n) (linkPlaces archive usedBefore) (old (eqb-false n usedBefore e)))
             ∙ was (well .named n z (omega (arith, eqb-false n usedBefore e)))

@@ -15,6 +15,7 @@ pub mod Append
 pub mod Unlinked
 pub mod Read
 pub mod ReadBack
+pub mod TakeBack
 pub mod Positive
 pub mod Monotone
 pub mod Agree
@@ -31,6 +32,7 @@ pub mod Output
 pub mod Ranges
 pub mod Figures
 pub mod DateFigures
+pub mod TakeBackFigures
 pub mod RaisedExample
 pub mod Walks
 pub mod Folds
@@ -38,3 +40,4 @@ pub mod Writes
 pub mod Owners
 pub mod AppendSteps
 pub mod AuditSteps
+pub mod TakeBackSteps

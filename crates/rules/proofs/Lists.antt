@@ -41,6 +41,25 @@ module _ {A : Type 0} where
       go true m = List·Memᴰ·tail m
       go false m = m
 
+  pub of-keep : (f : A → Bool) (l : List A) (a : A) → List·Memᴰ a (keep f l) → List·Memᴰ a l × (f a ≡ true)
+  of-keep f [] a m = absurd (List·Memᴰ·not-nil m)
+  of-keep f (b ∷ l) a m = go (f b) refl m (of-keep f l a)
+    where
+      go : (t : Bool) → f b ≡ t → List·Memᴰ a (cond t (b ∷ keep f l) (keep f l)) → (List·Memᴰ a (keep f l) → List·Memᴰ a l × (f a ≡ true))
+          → List·Memᴰ a (b ∷ l) × (f a ≡ true)
+      go true e n k = by (List·Memᴰ·cases-cons n)
+        where
+          by : (a ≡ b) ⊎ List·Memᴰ a (keep f l) → List·Memᴰ a (b ∷ l) × (f a ≡ true)
+          by (inl i) = (List·Memᴰ·head i, ap f i ∙ e)
+          by (inr n) = let w = k n in (List·Memᴰ·tail (w .0), w .1)
+      go false e n k = let w = k n in (List·Memᴰ·tail (w .0), w .1)
+
+  -- a list of one
+  pub sole : (l : List A) → length l ≡ 1 → (a : A) × (l ≡ a ∷ [])
+  sole [] h = absurd (omega arith)
+  sole (a ∷ []) h = (a, refl)
+  sole (a ∷ (b ∷ l)) h = absurd (omega arith)
+
   pub one-only : (l : List A) (a b : A) → length l ≡ 1 → List·Memᴰ a l → List·Memᴰ b l → a ≡ b
   one-only [] a b h m n = absurd (List·Memᴰ·not-nil m)
   one-only (c ∷ []) a b h m n = List·Memᴰ·eq-of-singleton m ∙ sym (List·Memᴰ·eq-of-singleton n)

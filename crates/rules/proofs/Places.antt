@@ -48,6 +48,36 @@ owned-linked r l m = go (eqb (kindOf r) 1) refl (eqb (kindOf r) 3) refl
     go false e true f = known (ap isKind (eqb-true (kindOf r) 3 f))
     go false e false f = absurd (List·Memᴰ·not-nil (rw (e, f) at m))
 
+-- links start at byte 4, 8 or 12
+pub data Starts (at : ℕ) : Type 0 where
+  next : at ≡ 4 → Starts at
+  first : at ≡ 8 → Starts at
+  second : at ≡ 12 → Starts at
+
+links-start : (r : List ℕ) (l : Link) → List·Memᴰ l (linksOf r) → Starts (l .at)
+unfolding linksOf ownedBy
+links-start r l = go (isKind (kindOf r)) (eqb (kindOf r) 1) (eqb (kindOf r) 3)
+  where
+    two : (j k : ℕ) → List·Memᴰ l (link 8 j ∷ link 12 k ∷ []) → Starts (l .at)
+    two j k m = by (List·Memᴰ·cases-cons m)
+      where
+        by : (l ≡ link 8 j) ⊎ List·Memᴰ l (link 12 k ∷ []) → Starts (l .at)
+        by (inl e) = first (ap (λ x. x .at) e)
+        by (inr n) = second (ap (λ x. x .at) (List·Memᴰ·eq-of-singleton n))
+
+    owned : (t u : Bool) → List·Memᴰ l (cond t (link 8 2 ∷ link 12 3 ∷ []) (cond u (link 8 4 ∷ link 12 5 ∷ []) [])) → Starts (l .at)
+    owned true u m = two 2 3 m
+    owned false true m = two 4 5 m
+    owned false false m = absurd (List·Memᴰ·not-nil m)
+
+    go : (k t u : Bool) → List·Memᴰ l (cond k (link 4 (kindOf r) ∷ cond t (link 8 2 ∷ link 12 3 ∷ []) (cond u (link 8 4 ∷ link 12 5 ∷ []) [])) []) → Starts (l .at)
+    go false t u m = absurd (List·Memᴰ·not-nil m)
+    go true t u m = by (List·Memᴰ·cases-cons m)
+      where
+        by : (l ≡ link 4 (kindOf r)) ⊎ List·Memᴰ l (cond t (link 8 2 ∷ link 12 3 ∷ []) (cond u (link 8 4 ∷ link 12 5 ∷ []) [])) → Starts (l .at)
+        by (inl e) = next (ap (λ x. x .at) e)
+        by (inr n) = owned t u n
+
 -- the links of a record are decided by bytes 0 to 2
 pub record SameStart (r s : List ℕ) : Type 0 where
   pub same : (i : ℕ) → i < 3 → byteAt r i ≡ byteAt s i
@@ -129,6 +159,14 @@ at-within archive n l m =
     let w = apart-within (32 * n + 32) (32 * n + 4) (standsAt n l) (map (standsAt n) (linksAt archive n)) (at-apart archive n) (in-map (standsAt n) m) in
     omega arith
 
+pub at-start : (archive : List ℕ) (n : ℕ) (l : Link) → List·Memᴰ l (linksAt archive n) → Starts (l .at)
+unfolding linksAt
+at-start archive n l = go (eqb n 0)
+  where
+    go : (t : Bool) → List·Memᴰ l (cond t headLinks (linksOf (recordAt archive n))) → Starts (l .at)
+    go true m = first (ap (λ k. k .at) (List·Memᴰ·eq-of-singleton m))
+    go false m = links-start (recordAt archive n) l m
+
 pub place-low : (archive : List ℕ) (n : ℕ) (l : Link) → List·Memᴰ l (linksAt archive n) → 8 ≤ standsAt n l
 unfolding linksAt
 place-low archive zero l m = let e : l .at ≡ 8 = ap (λ k. k .at) (List·Memᴰ·eq-of-singleton m) in omega arith
@@ -180,7 +218,7 @@ next-in archive n h e = rw (ne-eqb n 0 (λ z. omega arith), e) (List·Memᴰ·he
 
 -- ---- which bytes are links
 
-neither : (t u : Bool) → (t || u) ≡ false → (t ≡ false) × (u ≡ false)
+pub neither : (t u : Bool) → (t || u) ≡ false → (t ≡ false) × (u ≡ false)
 neither true u e = let z : _≡_ {A = ℕ} 0 1 = cc in absurd (omega arith)
 neither false u e = (refl, e)
 

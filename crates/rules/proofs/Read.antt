@@ -17,7 +17,8 @@ use Rattle.rules.proofs.Places.{links-same, links-within, links-at, own
 use Rattle.rules.proofs.Sound.{head-room, Well}
 use Rattle.rules.proofs.Runs.{Runs, lastAt, runs-chain, last-above, Reach, here, step, last-reached, reach-in, Starts, one-chain, link-runs}
 use Rattle.rules.proofs.Owners.{offset-unused}
-use Rattle.rules.proofs.Append.{Owned, offset-owned, Appending, last, owned, writing, byte-kept, start-kept, kind-kept, links-kept, owned-kept, link-kept, new-zero, well-after}
+use Rattle.rules.proofs.Write.{byte-kept, start-kept, kind-kept, links-kept, owned-kept, link-kept}
+use Rattle.rules.proofs.Append.{Owned, offset-owned, Appending, owned, writing, new-zero, well-after}
 use Rattle.rules.proofs.Unlinked.{unlinked-zero, unlinked-same}
 
 pub map-append : {A B : Type 0} (f : A → B) (l m : List A) → map f (l ++ m) ≡ map f l ++ map f m
@@ -78,9 +79,9 @@ module _ (archive : List ℕ) (owner : ℕ) (new after : List ℕ) (a : Appendin
 
   pub unlinked-kept : (n : ℕ) → 0 < n → n < a .used → unlinked (recordAt after n) ≡ unlinked (recordAt archive n)
   unlinked-kept n z h =
-      unlinked-same (recordAt after n) (recordAt archive n) (links-same (recordAt after n) (recordAt archive n) (start-kept archive owner new after a n h))
+      unlinked-same (recordAt after n) (recordAt archive n) (links-same (recordAt after n) (recordAt archive n) (start-kept (writing archive owner new after a) n h))
       (long₁ ∙ sym long₀) (λ l m. within l (links-within (recordAt after n) l m))
-      (λ i k o. byte-kept archive owner new after a n i h (below i k) (λ e. absurd (omega arith)) (λ e. o (last archive owner new after a .of) (held e)))
+      (λ i k o. byte-kept (writing archive owner new after a) n i h (below i k) (λ e. absurd (omega arith)) (λ e. o (writing archive owner new after a .stands .of) (held e)))
     where
       room₀ : (32 * (a .used) ≤ length archive) × (a .used ≤ 65535)
       room₀ = head-room archive (a .used) (a .head)
@@ -97,10 +98,10 @@ module _ (archive : List ℕ) (owner : ℕ) (new after : List ℕ) (a : Appendin
       below : (i : ℕ) → i < length (recordAt after n) → i < 32
       below i k = omega (arith, long₁)
 
-      held : n ≡ last archive owner new after a .holder → List·Memᴰ (last archive owner new after a .of) (linksOf (recordAt after n))
+      held : n ≡ writing archive owner new after a .stands .holder → List·Memᴰ (writing archive owner new after a .stands .of) (linksOf (recordAt after n))
       held e =
-          subst (λ ls. List·Memᴰ (last archive owner new after a .of) ls)
-          (ap (linksAt archive) (sym e) ∙ sym (links-kept archive owner new after a n h) ∙ links-at after n z) (last archive owner new after a .has)
+          subst (λ ls. List·Memᴰ (writing archive owner new after a .stands .of) ls)
+          (ap (linksAt archive) (sym e) ∙ sym (links-kept (writing archive owner new after a) n h) ∙ links-at after n z) (writing archive owner new after a .stands .has)
 
   entries-kept : (kind holder place : ℕ) (ns : List ℕ) → Runs archive (a .used) kind holder place ns → map butLinks (map (entryAt after) ns) ≡ map butLinks (map (entryAt archive) ns)
   entries-kept kind holder place [] r = refl
@@ -119,7 +120,7 @@ module _ (archive : List ℕ) (owner : ℕ) (new after : List ℕ) (a : Appendin
         same place R ∙ r .0,
         r .1,
         omega arith,
-        kind-kept archive owner new after a n (r .2) ∙ r .3,
+        kind-kept (writing archive owner new after a) n (r .2) ∙ r .3,
         runs-kept kind from n (32 * n + 4) ns (step place n R (r .0) (omega arith) refl) same (r .4),
       )
 
@@ -135,7 +136,7 @@ module _ (archive : List ℕ) (owner : ℕ) (new after : List ℕ) (a : Appendin
         same place R (λ i. omega arith) ∙ r .0,
         r .1,
         omega arith,
-        kind-kept archive owner new after a n (r .2) ∙ r .3,
+        kind-kept (writing archive owner new after a) n (r .2) ∙ r .3,
         runs-grown kind from n (32 * n + 4) ns (step place n R (r .0) (omega arith) refl) (omega arith) (r .2) same e k z (r .4),
       )
 
@@ -143,7 +144,7 @@ module _ (archive : List ℕ) (owner : ℕ) (new after : List ℕ) (a : Appendin
 
   pub offset-kept : (own kind : ℕ) → own < a .used → offsetFor after (a .used + 1) own kind ≡ offsetFor archive (a .used) own kind
   unfolding offsetFor
-  offset-kept own kind h = rw (lt-ltb own (a .used) h, lt-ltb own (a .used + 1) (omega arith), owned-kept archive owner new after a own h)
+  offset-kept own kind h = rw (lt-ltb own (a .used) h, lt-ltb own (a .used + 1) (omega arith), owned-kept (writing archive owner new after a) own h)
 
   abbrev pub filedHere : ℕ → ℕ → List Entry
   filedHere own kind = cond (eqb owner own && eqb (kindOf new) kind) (record { number = a .used; bytes = new } ∷ []) []
@@ -163,7 +164,7 @@ module _ (archive : List ℕ) (owner : ℕ) (new after : List ℕ) (a : Appendin
         let w = owned-at archive owner (link (a .offset) (kindOf new)) (o .has) in
         let p = 32 * owner + a .offset in
         let r = runs-grown (kindOf new) p owner p (a .passed) (here refl) (omega arith) (o .below)
-        (λ q R d. link-kept archive owner new after a q (reach-in archive (a .used) well p q (owned-starts archive (a .used) well owner (kindOf new) (a .offset) o .stands) R) d)
+        (λ q R d. link-kept (writing archive owner new after a) q (reach-in archive (a .used) well p q (owned-starts archive (a .used) well owner (kindOf new) (a .offset) o .stands) R) d)
         (writing archive owner new after a .named) (ap kindOf (writing archive owner new after a .filed)) next-zero (a .runs) in
         listed-runs after (a .used + 1) owner (kindOf new) (a .offset) (a .passed ++ a .used ∷ []) (offset-kept owner (kindOf new) (o .below) ∙ a .offset-is) r
         ∙ ap (map butLinks) (map-append (entryAt after) (a .passed) (a .used ∷ []))
@@ -182,7 +183,7 @@ module _ (archive : List ℕ) (owner : ℕ) (new after : List ℕ) (a : Appendin
         let t = owned-starts archive (a .used) well owner (kindOf new) (a .offset) (owned archive owner new after a) in
         let l = last-reached archive (a .used) (kindOf new) q₀ owner q₀ (a .passed) (here refl) (a .runs) in
         let k = runs-kept kind p own p (r .0) (here refl)
-        (λ q R. link-kept archive owner new after a q (reach-in archive (a .used) well p q (s .stands) R)
+        (λ q R. link-kept (writing archive owner new after a) q (reach-in archive (a .used) well p q (s .stands) R)
         (λ i. d (one-chain archive (a .used) well p q₀ q s t R (subst (λ (x : ℕ). Reach archive q₀ x) (sym i) l)))) (r .1) in
         listed-runs after (a .used + 1) own kind offset (r .0) (offset-kept own kind (o .below) ∙ e) k
         ∙ entries-kept kind own p (r .0) (r .1)

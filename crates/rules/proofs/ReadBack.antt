@@ -26,7 +26,7 @@ use Rattle.rules.proofs.Read.{reads, read-runs, listed, listed-none, li
 -- ---- a fresh archive
 
 module _ (size : ℕ) (whole : isWhole size ≡ true) where
-  rep-zero : (n i : ℕ) → byteAt (replicate n 0) i ≡ 0
+  pub rep-zero : (n i : ℕ) → byteAt (replicate n 0) i ≡ 0
   rep-zero zero i = refl
   rep-zero (suc n) zero = refl
   rep-zero (suc n) (suc i) = rep-zero n i
@@ -149,7 +149,7 @@ filed-on (s ∷ filings) archive end used well e =
 
 -- ---- demand 2
 
-start-is : (archive start : List ℕ) → fresh archive ≡ given start → (isWhole (length archive) ≡ true) × (freshBytes (length archive) ≡ start)
+pub start-is : (archive start : List ℕ) → fresh archive ≡ given start → (isWhole (length archive) ≡ true) × (freshBytes (length archive) ≡ start)
 unfolding fresh
 start-is archive start e = let a = required (isWhole (length archive)) 1 _ e in (a .0, given-inj (a .1))
 

@@ -2,21 +2,22 @@
 use mathlib.Core.Path.{_≡_, refl, sym, _∙_, ap, subst}
 use mathlib.Core.Bool.{Bool, true, false, cond, _||_, false≢true, true≢false}
 use mathlib.Core.List.{List, [], _∷_}
-use Prim.Native.Nat.{ℕ, zero, suc}
+use Prim.Native.Nat.{ℕ, zero, suc, _-_}
 use borrow.Author.Tests.{eqb-true}
 use lib.Dec.{eqb}
 use lib.ListN.{length}
 use Rattle.rules.specs.Outcome.{Outcome, refused, given, _>>=_, _>>_, require, numberOf, after}
-use Rattle.rules.specs.Refusals.{notArchive, badLink, wrongKind, settleRefusals, appendRefusals, auditRefusals, deliveryDayRefusals}
+use Rattle.rules.specs.Refusals.{notArchive, badLink, wrongKind, settleRefusals, appendRefusals, auditRefusals, takeBackRefusals, deliveryDayRefusals}
 use Rattle.rules.specs.Numbers.{member}
 use Rattle.rules.specs.Calendar.{deliveryDay}
 use Rattle.rules.specs.Archive.{linkAt, usedOf, nextOf, Entry, follow, atPlace, chainFrom, chain}
 use Rattle.rules.specs.Terms.{Technology, wind, solar, other, Variant, spitz, pauschal, Point, Before}
 use Rattle.rules.specs.Settle.{Place, Basis, admitted, placeOf, pointsOf, beforesOf, windBasis, firstMarked, solarBasis, pauschalBasis, basisBy, quartersOf, Settlement, settled, settle, Answer, answerOf}
 use Rattle.rules.specs.Host.{hostSettle}
-use Rattle.rules.specs.Links.{Link, ownedAt, linksAt, standsAt}
+use Rattle.rules.specs.Links.{Link, ownedAt, linksAt, standsAt, namers}
 use Rattle.rules.specs.Filing.{fresh, offsetIn, offsetFor, append}
 use Rattle.rules.specs.Audit.{linkChecked, linksChecked, recordChecked, recordsChecked, audit}
+use Rattle.rules.specs.TakeBack.{onlyPlace, takeBack}
 use Rattle.rules.specs.Demands.{RefusedWithin, EveryCallAnswers, RefusalsChangeNothing}
 
 -- ---- along the parts of a definition
@@ -206,6 +207,17 @@ unfolding audit
 audit-within archive =
     within-bind _ _ (within-used refl archive) (λ used. within-then _ _ (records-within archive used used) (within-require _ 17 refl))
 
+only-within : (places : List ℕ) → RefusedWithin takeBackRefusals (onlyPlace places)
+only-within [] = within-refused 19 refl
+only-within (place ∷ []) = within-given place
+only-within (place ∷ (another ∷ rest)) = within-refused 19 refl
+
+take-back-within : (archive : List ℕ) → RefusedWithin takeBackRefusals (takeBack archive)
+unfolding takeBack
+take-back-within archive =
+    within-bind _ _ (within-used refl archive) (λ used. within-test _ 19 _ refl
+    (within-bind _ _ (only-within (namers archive used (used - 1))) (λ place. within-given _)))
+
 delivers-within : (quarter : ℕ) (holidays : List ℕ) → RefusedWithin deliveryDayRefusals (deliveryDay quarter holidays)
 unfolding deliveryDay
 delivers-within quarter holidays = within-test _ 18 _ refl (within-given _)
@@ -218,6 +230,7 @@ every-call-answers = record {
   freshens = λ archive. within-test _ 1 _ refl (within-given _);
   appends = append-within;
   audits = audit-within;
+  takes-back = take-back-within;
   delivers = delivers-within;
 }
 
@@ -246,5 +259,6 @@ refusals-change-nothing = record {
       (h .leaves-list ∙ kept o _ list number (h .answers) f, h .leaves-result ∙ kept o _ result number (h .answers) f);
   freshens = λ archive later number h f. h .leaves ∙ kept (fresh archive) _ archive number (h .answers) f;
   appends = λ archive owner new later number h f. h .leaves ∙ kept (append archive owner new) _ archive number (h .answers) f;
+  takes-back = λ archive later number h f. h .leaves ∙ kept (takeBack archive) _ archive number (h .answers) f;
   delivers = λ quarter holidays was day number h f. h .leaves ∙ kept (deliveryDay quarter holidays) _ was number (h .answers) f;
 }

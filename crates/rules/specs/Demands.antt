@@ -1,23 +1,24 @@
 -- The demands as statements; proofs/ proves each.
-use Prim.Native.Nat.{ℕ, _+_, _-_, _/_, _≤_, _<_}
+use Prim.Native.Nat.{ℕ, _+_, _-_, _/_, _^_, _≤_, _<_}
 use mathlib.Core.Path.{_≡_}
-use mathlib.Core.Bool.{Bool, true, false}
+use mathlib.Core.Bool.{true, false}
 use mathlib.Core.List.{List}
 use lib.IntN.{ℤ}
 use lib.Signed.{_≤ℤ_}
-use lib.ListN.{length, take}
-use Rattle.rules.specs.Outcome.{Outcome, refused, given, numberOf}
-use Rattle.rules.specs.Refusals.{settleRefusals, freshRefusals, appendRefusals, auditRefusals, deliveryDayRefusals}
+use lib.ListN.{length, take, replicate}
+use Rattle.rules.specs.Outcome.{Outcome, refused, given}
+use Rattle.rules.specs.Refusals.{settleRefusals, freshRefusals, appendRefusals, auditRefusals, takeBackRefusals, deliveryDayRefusals}
 use Rattle.rules.specs.Numbers.{sumℤ, member, keep}
 use Rattle.rules.specs.Calendar.{Date, monthLength, dated, dateOf, dayNumber, nextFirst, dayAfter, saturday, following, weekdayOf, isMondayToFriday, dayOf}
 use Rattle.rules.specs.Calendar.{isWorkingDay, daysFrom, workingDays, nextMonth, deliveryDay}
-use Rattle.rules.specs.Archive.{kindOf, usedOf}
+use Rattle.rules.specs.Archive.{byteAt, kindOf, recordAt, usedOf}
 use Rattle.rules.specs.Settle.{Answer, answerOf, settle, listAfter}
 use Rattle.rules.specs.Fractions.{Raised}
 use Rattle.rules.specs.Host.{hostSettle}
 use Rattle.rules.specs.Filing.{fresh, newAllowed, offsetFor, append}
 use Rattle.rules.specs.Audit.{audit, Sound}
-use Rattle.rules.specs.Promises.{Settles, HostSettles, Freshens, Appends, Delivers}
+use Rattle.rules.specs.TakeBack.{takeBack, takeBackTimes}
+use Rattle.rules.specs.Promises.{Settles, HostSettles, Freshens, Appends, TakesBack, Delivers}
 use Rattle.rules.specs.ReadBack.{Filing, fileAll, Filed}
 
 -- ---- demand 1: an answer or the one refusal; a refused call changes nothing
@@ -32,6 +33,7 @@ pub record EveryCallAnswers : Type 0 where
   pub freshens : (archive : List ℕ) → RefusedWithin freshRefusals (fresh archive)
   pub appends : (archive : List ℕ) (owner : ℕ) (new : List ℕ) → RefusedWithin appendRefusals (append archive owner new)
   pub audits : (archive : List ℕ) → RefusedWithin auditRefusals (audit archive)
+  pub takes-back : (archive : List ℕ) → RefusedWithin takeBackRefusals (takeBack archive)
   pub delivers : (quarter : ℕ) (holidays : List ℕ) → RefusedWithin deliveryDayRefusals (deliveryDay quarter holidays)
 
 -- show and audit are lent the archive for reading alone, settle too
@@ -43,6 +45,7 @@ pub record RefusalsChangeNothing : Type 0 where
   pub freshens : (archive later : List ℕ) (number : ℕ) → Freshens archive later number → (number ≡ 0 → ⊥) → later ≡ archive
   pub appends : (archive : List ℕ) (owner : ℕ) (new later : List ℕ) (number : ℕ) → Appends archive owner new later number
       → (number ≡ 0 → ⊥) → later ≡ archive
+  pub takes-back : (archive later : List ℕ) (number : ℕ) → TakesBack archive later number → (number ≡ 0 → ⊥) → later ≡ archive
   pub delivers : (quarter : ℕ) (holidays : List ℕ) (was day number : ℕ) → Delivers quarter holidays was day number → (number ≡ 0 → ⊥) → day ≡ was
 
 -- ---- demand 2: what is filed is read again
@@ -60,6 +63,30 @@ abbrev pub Files : Type 0
 Files =
     (archive : List ℕ) (used owner offset : ℕ) (new : List ℕ) → Sound archive → usedOf archive ≡ given used → newAllowed new ≡ true
     → offsetFor archive used owner (kindOf new) ≡ given offset → used < length archive / 32 → (later : List ℕ) × (append archive owner new ≡ given later)
+
+-- ---- taking back (02, 2)
+
+-- each of these numbers fits a byte
+abbrev pub AreBytes : List ℕ → Type 0
+AreBytes archive = (i : ℕ) → byteAt archive i < 2 ^ 8
+
+-- an append that isn't refused, on a sound archive whose place U is all zero, followed by taking back, gives the earlier archive
+abbrev pub TakesAppendBack : Type 0
+TakesAppendBack =
+    (archive later : List ℕ) (used owner : ℕ) (new : List ℕ) → AreBytes archive → Sound archive → usedOf archive ≡ given used
+    → recordAt archive used ≡ replicate 32 0 → append archive owner new ≡ given later → takeBack later ≡ given archive
+
+-- of a sound archive with more than its head the last record is taken back, and the archive stays sound
+abbrev pub TakesBackSoundly : Type 0
+TakesBackSoundly =
+    (archive : List ℕ) (used : ℕ) → Sound archive → usedOf archive ≡ given used → 1 < used
+    → (later : List ℕ) × (takeBack archive ≡ given later) × (usedOf later ≡ given (used - 1)) × Sound later
+
+-- filings into a fresh archive, none refused, and then some taken back: the archive of those before them
+abbrev pub TakesFilingsBack : Type 0
+TakesFilingsBack =
+    (archive start end : List ℕ) (filings : List Filing) (times : ℕ) → fresh archive ≡ given start → fileAll filings start ≡ given end
+    → times ≤ length filings → takeBackTimes times end ≡ fileAll (take (length filings - times) filings) start
 
 -- ---- demand 3: the amounts against the exact fractions, and against an archive with raised readings
 

@@ -14,8 +14,10 @@ pub mod Links
 pub mod Filing
 pub mod Audit
 pub mod ReadBack
+pub mod TakeBack
 pub mod Output
 pub mod Promises
 pub mod Demands
 pub mod Figures
 pub mod DateFigures
+pub mod TakeBackFigures

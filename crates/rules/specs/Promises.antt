@@ -15,6 +15,7 @@ use Rattle.rules.specs.Fractions.{Fractions, exactFractions, Exact}
 use Rattle.rules.specs.Host.{hostSettle, hostListAfter, hostResultAfter}
 use Rattle.rules.specs.Filing.{fresh, append, archiveAfter, isShown, shown}
 use Rattle.rules.specs.Audit.{audit}
+use Rattle.rules.specs.TakeBack.{takeBack}
 
 -- demand 3 of one call that isn't refused: the list that it leaves and the total that it gives keep to the exact fractions
 pub record KeepsToFractions (archive : List ℕ) (p k : ℕ) (later : List ℤ) (answer : Answer) : Type 0 where
@@ -42,6 +43,10 @@ pub record Freshens (archive later : List ℕ) (number : ℕ) : Type 0 where
 pub record Appends (archive : List ℕ) (owner : ℕ) (new later : List ℕ) (number : ℕ) : Type 0 where
   pub answers : number ≡ numberOf (append archive owner new)
   pub leaves : later ≡ archiveAfter (append archive owner new) archive
+
+pub record TakesBack (archive later : List ℕ) (number : ℕ) : Type 0 where
+  pub answers : number ≡ numberOf (takeBack archive)
+  pub leaves : later ≡ archiveAfter (takeBack archive) archive
 
 -- show hands back a part of the lent archive itself: its bytes, the block that it lies in, and the place there
 pub record Shows (archive : RefT (List ℕ)) (n : ℕ) (part : RefT (List ℕ)) : Type 0 where

@@ -74,6 +74,10 @@ notNamedOnce = 17
 abbrev pub notInCalendar : ℕ
 notInCalendar = 18
 
+-- taking back: U is 1, or the last record isn't named by precisely one link of the head or of a used record of known kind (02, 2)
+abbrev pub lastNotNamedOnce : ℕ
+lastNotNamedOnce = 19
+
 -- ---- the numbers that each call can return beside 0
 
 abbrev pub settleRefusals : List ℕ
@@ -92,3 +96,6 @@ auditRefusals = notArchive ∷ badLink ∷ wrongKind ∷ notNamedOnce ∷ []
 
 abbrev pub deliveryDayRefusals : List ℕ
 deliveryDayRefusals = notInCalendar ∷ []
+
+abbrev pub takeBackRefusals : List ℕ
+takeBackRefusals = notArchive ∷ lastNotNamedOnce ∷ []

@@ -35,3 +35,5 @@ pub const ARCHIVE_FULL: u64 = 16;
 pub const NOT_NAMED_ONCE: u64 = 17;
 
 pub const NOT_IN_CALENDAR: u64 = 18;
+
+pub const LAST_NOT_NAMED_ONCE: u64 = 19;

@@ -10,7 +10,7 @@
 //! 3 fresh: number, hash of the archive; 4 append (a = owner): number, hash of the archive; 5 audit: number;
 //! 6 the program, its input as archive: hash and length of what it writes;
 //! 7 delivery day (a = quarter; the holidays, 4 bytes each, as list; the lent day, 8 bytes, as result part): number,
-//! the day afterwards. Each line starts with the call.
+//! the day afterwards; 8 take back: number, hash of the archive. Each line starts with the call.
 
 #[path = "shared/host.rs"]
 mod host;
@@ -37,10 +37,11 @@ const APPEND: u8 = 4;
 const AUDIT: u8 = 5;
 const PROGRAM: u8 = 6;
 const DELIVERY_DAY: u8 = 7;
+const TAKE_BACK: u8 = 8;
 
 /// Each call's numbers; show has 0 for a record and 1 for the empty part, delivery day also 1 for day 0, the program 0
 /// for an M line.
-const NUMBERS: [(u8, &str, &[u32]); 7] = [
+const NUMBERS: [(u8, &str, &[u32]); 8] = [
     (SETTLE, "settle", &[0, 1, 2, 3, 4, 5, 6, 7, 8, 9, 10, 11, 12, 13, 18]),
     (SHOW, "show (0 a record, 1 the empty part)", &[0, 1]),
     (FRESH, "fresh", &[0, 1]),
@@ -48,6 +49,7 @@ const NUMBERS: [(u8, &str, &[u32]); 7] = [
     (AUDIT, "audit", &[0, 1, 2, 3, 17]),
     (PROGRAM, "program (by line, 0 for M)", &[0, 1, 2, 3, 6, 7, 8, 9, 10, 11, 12, 18]),
     (DELIVERY_DAY, "delivery day (1 for day 0)", &[0, 1, 18]),
+    (TAKE_BACK, "take back", &[0, 1, 19]),
 ];
 
 #[derive(Clone, Debug, Default)]
@@ -73,6 +75,7 @@ impl Case {
             Call::Fresh { archive } => Case { call: FRESH, archive, ..none },
             Call::Append { archive, owner, record } => Case { call: APPEND, a: owner, archive, record, ..none },
             Call::Audit { archive } => Case { call: AUDIT, archive, ..none },
+            Call::TakeBack { archive } => Case { call: TAKE_BACK, archive, ..none },
             Call::DeliveryDay { quarter, holidays } => {
                 let list = holidays.iter().flat_map(|day| day.to_le_bytes()).collect();
                 Case { call: DELIVERY_DAY, a: quarter, list, result: (!quarter).to_le_bytes().to_vec(), ..none }
@@ -119,6 +122,10 @@ impl Case {
                 let number = host::audit(archive);
                 (format!("{call} {number}"), vec![number])
             }
+            TAKE_BACK => {
+                let number = host::take_back(archive);
+                (format!("{call} {number} {:016x}", hash(archive)), vec![number])
+            }
             DELIVERY_DAY => {
                 let day_of = |bytes: &[u8]| u32::from_le_bytes(bytes.try_into().expect("4 bytes"));
                 let holidays: Vec<u32> = list.chunks(4).map(day_of).collect();
@@ -152,7 +159,7 @@ fn hash(bytes: &[u8]) -> u64 {
     bytes.iter().fold(0xcbf2_9ce4_8422_2325, |hash, &byte| (hash ^ u64::from(byte)).wrapping_mul(0x100_0000_01b3))
 }
 
-/// Further calls on an archive: settle twice, show, append, audit.
+/// Further calls on an archive: settle twice, show, append, audit, take back.
 fn further(seed: u64, index: u64, archive: &[u8]) -> Vec<Case> {
     let mut rng = Rng::new(seed ^ 0x4675_7274_6865_7200, index);
     let all = (archive.len() / RECORD) as u64;
@@ -174,6 +181,7 @@ fn further(seed: u64, index: u64, archive: &[u8]) -> Vec<Case> {
     new[4..if matches!(kind, PLANT | MEASURE) { 16 } else { 8 }].fill(0);
     cases.push(Case { record: new, ..case(APPEND, owner, 0) });
     cases.push(case(AUDIT, 0, 0));
+    cases.push(case(TAKE_BACK, 0, 0));
     cases
 }
 
@@ -222,7 +230,7 @@ fn ask(seed: u64, archives: usize, folder: &Path, program: &Path) -> io::Result<
     fs::create_dir_all(folder)?;
     let mut cases = BufWriter::new(File::create(folder.join("cases"))?);
     let mut lines = BufWriter::new(File::create(folder.join("lines"))?);
-    let mut calls = [0u64; 8];
+    let mut calls = [0u64; 9];
     let mut numbers: BTreeMap<(u8, u32), u64> = BTreeMap::new();
     let mut length = 0;
     let made = each(seed, archives, |_, mut case| {

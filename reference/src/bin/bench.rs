@@ -166,6 +166,39 @@ fn audit(repetitions: usize, versions: &[Version], archive: &[u8]) -> Vec<f64> {
     medians(repetitions, versions[0].places.len(), &mut sides)
 }
 
+/// Times taking back the last record of a sound archive; record, link and U are written back each time, which is in all
+/// figures.
+fn take_back(repetitions: usize, versions: &[Version], archive: &[u8]) -> Vec<f64> {
+    let mut later = archive.to_vec();
+    assert_eq!(fast::take_back(&mut later), 0);
+    let last = archive.len() - 32;
+    let link = (8..last).step_by(4).find(|&at| archive[at..at + 4] != later[at..at + 4]).expect("a link that named it");
+    let redo = |taken: &mut [u8]| {
+        taken[4..8].copy_from_slice(&archive[4..8]);
+        taken[link..link + 4].copy_from_slice(&archive[link..link + 4]);
+        taken[last..].copy_from_slice(&archive[last..]);
+    };
+    let mut sides: Vec<Side> = Vec::new();
+    for version in versions {
+        let mut own = archive.to_vec();
+        for place in &version.places {
+            assert_eq!(place.take_back(&mut own), 0);
+            assert!(own == later, "library and fast differ");
+            redo(&mut own);
+        }
+        sides.push(Box::new(move |at| {
+            black_box(version.places[at].take_back(black_box(&mut own)));
+            redo(&mut own);
+        }));
+    }
+    redo(&mut later);
+    sides.push(Box::new(move |_| {
+        black_box(fast::take_back(black_box(&mut later)));
+        redo(&mut later);
+    }));
+    medians(repetitions, versions[0].places.len(), &mut sides)
+}
+
 /// Times the delivery day with so many holidays, the next month's own days first.
 fn delivery_day(repetitions: usize, versions: &[Version], holidays: &[u32]) -> Vec<f64> {
     let quarter = 937_921;
@@ -316,6 +349,19 @@ fn main() {
         for records in [1_000, 8_000, 65_535] {
             let archive = sound(records, order, rng);
             row(&format!("{records} records, {how}"), &audit(repetitions, &versions, &archive), records as f64);
+        }
+    }
+
+    if versions.iter().all(Version::takes_back) {
+        let title = "Taking back the last record of a sound archive (and filing it again)";
+        header(title, "ns per record", &versions);
+        // Numbers of its own, so that the later inputs are the same in every version.
+        let rng = &mut Rng::new(7, 8);
+        for (order, how) in [(Order::Deep, "chain by chain"), (Order::Sticky, "chains mixed")] {
+            for records in [1_000, 8_000, 65_535] {
+                let archive = sound(records, order, rng);
+                row(&format!("{records} records, {how}"), &take_back(repetitions, &versions, &archive), records as f64);
+            }
         }
     }
 

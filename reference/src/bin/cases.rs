@@ -6,9 +6,9 @@
 //! follow for the archive's start, the archive's size, how many bytes of a new record follow then, and the list's
 //! places. Archive and list are otherwise as the calls before left them, so a long archive is written once.
 //!
-//! Its line has the refusal number, count, total, links and a checksum: settle's of the later list, append's and
-//! fresh's of the later archive, show's of its part, whose length is the count. Delivery day has the quarter as its
-//! first number, the holidays in place of the record, 4 bytes each, and the day as its count.
+//! Its line has the refusal number, count, total, links and a checksum: settle's of the later list, append's, fresh's
+//! and taking back's of the later archive, show's of its part, whose length is the count. Delivery day has the quarter
+//! as its first number, the holidays in place of the record, 4 bytes each, and the day as its count.
 
 use reference::archive::{used, DATE, RECORD};
 use reference::builder::*;
@@ -16,7 +16,7 @@ use reference::calendar::{first_day, LAST};
 use reference::generate::{self, Call, NUMBERS, SETTLED};
 use reference::rng::Rng;
 use reference::settle::{terms, Answer, Pairing};
-use reference::slips::{self, Of, Slip, SLIPS};
+use reference::slips::{self, Of, Slip, FURTHER, SLIPS};
 use std::collections::BTreeMap;
 use std::fmt::Write;
 use std::path::Path;
@@ -59,6 +59,7 @@ enum Step<'a> {
     Show { number: u64 },
     Fresh,
     DeliveryDay { quarter: u64, holidays: &'a [u32] },
+    TakeBack,
 }
 
 use Step::*;
@@ -118,13 +119,23 @@ fn reaches(archive: &[u8], list: &[i64], step: Step) -> Vec<String> {
             number("delivery day", right.0);
             told(Of::DeliveryDay, |slip| delivery_day(slip) != right)
         }
+        TakeBack => {
+            let take_back = |slip| {
+                let mut later = archive.to_vec();
+                (slips::take_back(slip, &mut later), later)
+            };
+            let right = take_back(Slip::None);
+            number("take back", right.0);
+            told(Of::TakeBack, |slip| take_back(slip) != right)
+        }
     };
     reached.extend(told.iter().map(|slip| format!("{slip:?}")));
     reached
 }
 
 fn told(of: Of, differs: impl Fn(Slip) -> bool) -> Vec<Slip> {
-    SLIPS.iter().filter(|&&(slip, own, _, _)| own == of && differs(slip)).map(|&(slip, _, _, _)| slip).collect()
+    let all = SLIPS.iter().chain(FURTHER);
+    all.filter(|&&(slip, own, _, _)| own == of && differs(slip)).map(|&(slip, _, _, _)| slip).collect()
 }
 
 fn settled(pairing: Pairing, direction: u8, execution: u8) -> String {
@@ -163,6 +174,9 @@ fn wanted() -> Vec<(String, u64)> {
             wanted.push((format!("{slip:?}"), 2));
         }
     }
+    // Of the further ones those of taking back.
+    let further = FURTHER.iter().filter(|&&(_, of, _, _)| of == Of::TakeBack);
+    wanted.extend(further.map(|(slip, _, _, _)| (format!("{slip:?}"), 1)));
     wanted
 }
 
@@ -192,6 +206,7 @@ impl Cases {
                 assert!(holidays.len() <= HOLIDAYS);
                 (6, quarter, 0, holidays.iter().flat_map(|day| day.to_le_bytes()).collect(), 0)
             }
+            TakeBack => (7, 0, 0, none, 0),
         };
         self.calls.extend(name.to_le_bytes());
         self.calls.extend(first.to_le_bytes());
@@ -223,6 +238,10 @@ impl Cases {
                 let number = reference::host_delivery_day(quarter, holidays, &mut day);
                 (Answer { count: day, ..Answer::refused(number) }, 0)
             }
+            TakeBack => {
+                let number = reference::take_back(archive);
+                (Answer::refused(number), sum_of_bytes(archive))
+            }
         };
         let Answer { number, count, total, links } = answer;
         writeln!(self.lines, "{number} {count} {total} {links} {sum}").expect("a string takes every line");
@@ -239,6 +258,7 @@ impl Cases {
                 Call::Show { archive, number } => (archive, Show { number: *number }),
                 Call::Fresh { archive } => (archive, Fresh),
                 Call::DeliveryDay { quarter, holidays } => (&[], DeliveryDay { quarter: *quarter, holidays }),
+                Call::TakeBack { archive } => (archive, TakeBack),
             };
             if archive.len() > most {
                 continue;
@@ -254,7 +274,8 @@ impl Cases {
         }
     }
 
-    /// A plant filed record by record into a fresh archive, audited, settled and shown.
+    /// A plant filed record by record into a fresh archive, audited, settled and shown; the last records taken back, of
+    /// wind Spitz all of them.
     fn filed(&mut self, pairing: Pairing, direction: u8, rng: &mut Rng) {
         let sheet = sheet(pairing, direction, 7, rng);
         let measure = &sheet.measures[0];
@@ -277,10 +298,19 @@ impl Cases {
         for number in [0, 1, 2, 17] {
             self.run(&[], size, Show { number });
         }
-        file(self, 2, &quarter_record(&measure.quarters[0], rng, true));
+        let quarter = quarter_record(&measure.quarters[0], rng, true);
+        file(self, 2, &quarter);
+        self.run(&[], size, TakeBack);
+        self.run(&[], size, Settle { p: 1, k: 1, places: 7 });
+        file(self, 2, &quarter);
+        for _ in 0..if pairing == Pairing::WindSpitz { 18 } else { 2 } {
+            self.run(&[], size, TakeBack);
+        }
+        self.run(&[], size, Audit);
     }
 
-    /// A chain of 2,975 to 2,978 quarters in every pairing, direction and execution.
+    /// A chain of 2,975 to 2,978 quarters in every pairing, direction and execution; the last ones taken back, and those
+    /// beside record 256.
     fn long(&mut self, rng: &mut Rng) {
         let plant = sheet(Pairing::WindSpitz, 2, 2_975, rng);
         let quarter = quarter_record(&plant.measures[0].quarters[0], rng, true);
@@ -322,6 +352,15 @@ impl Cases {
         self.run(&[], size, append);
         self.run(&[], size, Audit);
         self.run(&[], size, Show { number: (size / RECORD) as u64 - 1 });
+        self.run(&[], size, TakeBack);
+        self.run(&[], size, Audit);
+        self.run(&[], size, TakeBack);
+        self.run(&[], size, settle(2_976));
+        let mut fewer = self.archive[..RECORD].to_vec();
+        fewer[4..8].copy_from_slice(&257u32.to_le_bytes());
+        self.run(&fewer, size, TakeBack);
+        self.run(&[], size, TakeBack);
+        self.run(&[], size, Audit);
     }
 }
 

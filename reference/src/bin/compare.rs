@@ -100,6 +100,14 @@ fn compare(call: &Call, index: u64) -> Result<(), String> {
             lent.check("archive", &after)?;
             lent_record.check("record", record)
         }
+        Call::TakeBack { archive } => {
+            let mut after = archive.clone();
+            let expected = reference::take_back(&mut after);
+            let mut lent = Lent::new(archive, index);
+            let found = host::take_back(lent.part());
+            number(expected, found)?;
+            lent.check("archive", &after)
+        }
         Call::Audit { archive } => {
             let mut lent = Lent::new(archive, index);
             let found = host::audit(lent.part());
@@ -160,6 +168,7 @@ fn describe(call: &Call) -> String {
             archive.len(),
             hex(archive)
         ),
+        Call::TakeBack { archive } => format!("take back\narchive ({} bytes):\n{}", archive.len(), hex(archive)),
         Call::Audit { archive } => format!("audit\narchive ({} bytes):\n{}", archive.len(), hex(archive)),
         Call::Show { archive, number } => {
             format!("show {number}\narchive ({} bytes):\n{}", archive.len(), hex(archive))
@@ -179,7 +188,8 @@ fn main() -> ExitCode {
             return ExitCode::from(2);
         }
     };
-    let mut calls = [("settle", 0u64), ("fresh", 0), ("append", 0), ("show", 0), ("audit", 0), ("delivery day", 0)];
+    let names = ["settle", "fresh", "append", "show", "audit", "delivery day", "take back"];
+    let mut calls = names.map(|name| (name, 0u64));
     for index in first..first + count {
         let call = generate::call(seed, index).call;
         if let Err(difference) = compare(&call, index) {
@@ -195,6 +205,7 @@ fn main() -> ExitCode {
             Call::Show { .. } => 3,
             Call::Audit { .. } => 4,
             Call::DeliveryDay { .. } => 5,
+            Call::TakeBack { .. } => 6,
         };
         calls[kind].1 += 1;
     }

@@ -1,8 +1,10 @@
 //! Writes document 01's printed example, case a: DIR/archive, the program's lines for it, DIR/program, and what
 //! examples/host.c has to print, DIR/host. DIR/dated is what examples/dated.c has to print: a dated measure and a
-//! delivery day of request 1.
+//! delivery day of request 1. DIR/takeback is what examples/takeback.c has to print: a quarter filed under the wrong
+//! measure, taken back and filed under its own.
 
-use reference::builder::{case_a, file, Layout, Measure, Plant, Quarter};
+use reference::archive::RECORD;
+use reference::builder::*;
 use reference::calendar::{first_day, Day};
 use reference::rng::Rng;
 use std::fmt::Write;
@@ -40,6 +42,54 @@ fn dated() -> String {
     text
 }
 
+/// The count and total of both measures, under a line that says when.
+fn both_measures(text: &mut String, when: &str, archive: &[u8]) {
+    writeln!(text, "{when}").expect(TAKES);
+    for k in 1..=2 {
+        let mut list = [0; 3];
+        let answer = reference::settle(archive, 1, k, &mut list);
+        assert_eq!(answer.number, 0);
+        writeln!(text, "  measure {k}: quarters {}, total {} Wh", answer.count, answer.total).expect(TAKES);
+    }
+}
+
+/// Other Pauschal, 1 MW: two measures of one plant, in 11 records.
+fn taken_back() -> String {
+    let mut archive = vec![0; 11 * RECORD];
+    assert_eq!(reference::fresh(&mut archive), 0);
+    let rng = &mut Rng::new(0, 0);
+    let append = |archive: &mut [u8], owner, record: &[u8]| {
+        assert_eq!(reference::append(archive, owner, record), 0);
+    };
+    let plant = Plant { technology: 3, variant: 2, nominal: 1_000_000, curve: Vec::new(), measures: Vec::new() };
+    let measure = Measure { direction: 2, execution: 2, first: 0, before: Vec::new(), quarters: Vec::new() };
+    append(&mut archive, 0, &plant_record(&plant, rng, false));
+    append(&mut archive, 1, &measure_record(&measure, rng, false));
+    append(&mut archive, 1, &measure_record(&measure, rng, false));
+    for (owner, measured) in [(2, 800_000), (3, 600_000)] {
+        append(&mut archive, owner, &before_record(&Before { mark: 1, measured, weather: 0 }, rng, false));
+    }
+    let quarter = |time, measured| {
+        quarter_record(&Quarter { month: 7, time, measured, ..Quarter::default() }, &mut Rng::new(0, 0), false)
+    };
+    append(&mut archive, 2, &quarter(40, 500_001));
+    append(&mut archive, 2, &quarter(41, 500_001));
+    append(&mut archive, 3, &quarter(44, 300_002));
+
+    let mut text = String::new();
+    both_measures(&mut text, "as filed", &archive);
+    let before = archive.clone();
+    let mistaken = quarter(42, 500_002);
+    append(&mut archive, 3, &mistaken);
+    both_measures(&mut text, "a quarter under the wrong measure", &archive);
+    assert_eq!(reference::take_back(&mut archive), 0);
+    assert_eq!(archive, before);
+    both_measures(&mut text, "taken back: every byte as before", &archive);
+    append(&mut archive, 2, &mistaken);
+    both_measures(&mut text, "under its own measure", &archive);
+    text
+}
+
 fn main() -> io::Result<()> {
     let directory = env::args().nth(1).expect("usage: example DIR");
     let directory = Path::new(&directory);
@@ -58,5 +108,6 @@ fn main() -> io::Result<()> {
     fs::write(directory.join("archive"), archive)?;
     fs::write(directory.join("program"), lines)?;
     fs::write(directory.join("host"), host)?;
-    fs::write(directory.join("dated"), dated())
+    fs::write(directory.join("dated"), dated())?;
+    fs::write(directory.join("takeback"), taken_back())
 }

@@ -5,7 +5,8 @@
 //! the linked library is asked as well. Exit status 1 on a difference, or if a wrong reading shows nowhere.
 //!
 //! FORMAT section 15 has the layout: a table of archives with lengths and SHA-256 (the files are in examples/), dumps
-//! of some of them, and tables with the columns Archive, Change, Call and Result. FORMAT section 16 has that of the
+//! of some of them, and tables with the columns Archive, Change, Call and Result. The result of `take back` is a number,
+//! or for 0 what changed, as in `0: r6 = 00; r5[4-7] = 0; r0[4-7] = 6`. FORMAT section 16 has the layout of the
 //! delivery days, tables with the columns Quarter, Holidays and Result. The dates of RULES section 13, in tables with
 //! the columns of `DATES`, must be those of the plain calendar.
 
@@ -44,6 +45,7 @@ enum Call {
     Show { number: u64 },
     Fresh,
     DeliveryDay { quarter: u64, holidays: Vec<u32> },
+    TakeBack,
     Program,
 }
 
@@ -172,6 +174,7 @@ fn call(text: &str) -> Result<Call, Fault> {
         }
         "show" => Ok(Call::Show { number: number(rest)? }),
         "audit" => Ok(Call::Audit),
+        "take" if rest == "back" => Ok(Call::TakeBack),
         "fresh" => Ok(Call::Fresh),
         "program" => Ok(Call::Program),
         _ => Err(format!("no call: {text}")),
@@ -235,6 +238,18 @@ fn outcome(example: &Example) -> Result<Outcome, Fault> {
             }
             Ok(Outcome::Changed { number: refusal, archive: later })
         }
+        Call::TakeBack => {
+            let mut later = archive.clone();
+            let refusal: u32 = number(head)?;
+            if refusal == 0 {
+                let (cleared, changes) = rest.split_once("; ").ok_or(format!("no result of take back: {text}"))?;
+                let cleared = cleared.strip_suffix(" = 00").ok_or(format!("no result of take back: {text}"))?;
+                let start = RECORD * record_number(cleared)?;
+                later.get_mut(start..start + RECORD).ok_or(format!("outside the archive: {text}"))?.fill(0);
+                changes.split("; ").try_for_each(|one| change(&mut later, one))?;
+            }
+            Ok(Outcome::Changed { number: refusal, archive: later })
+        }
         Call::Fresh => {
             let mut later = archive.clone();
             let refusal: u32 = number(head)?;
@@ -278,6 +293,7 @@ trait Calls {
     fn show(&self, archive: &[u8], number: u64) -> u64;
     fn fresh(&self, archive: &mut [u8]) -> u32;
     fn delivery_day(&self, quarter: u64, holidays: &[u32], day: &mut u64) -> u32;
+    fn take_back(&self, archive: &mut [u8]) -> u32;
     /// The program's lines, if this implementation has a program.
     fn program(&self, input: &[u8]) -> io::Result<Option<Vec<u8>>>;
 }
@@ -307,6 +323,9 @@ impl Calls for Plain {
     fn delivery_day(&self, quarter: u64, holidays: &[u32], day: &mut u64) -> u32 {
         reference::host_delivery_day(quarter, holidays, day)
     }
+    fn take_back(&self, archive: &mut [u8]) -> u32 {
+        reference::take_back(archive)
+    }
     fn program(&self, input: &[u8]) -> io::Result<Option<Vec<u8>>> {
         let mut lines = Vec::new();
         reference::program(input, &mut lines)?;
@@ -332,6 +351,9 @@ impl Calls for Slip {
     }
     fn delivery_day(&self, quarter: u64, holidays: &[u32], day: &mut u64) -> u32 {
         slips::delivery_day(*self, quarter, holidays, day)
+    }
+    fn take_back(&self, archive: &mut [u8]) -> u32 {
+        slips::take_back(*self, archive)
     }
     fn program(&self, input: &[u8]) -> io::Result<Option<Vec<u8>>> {
         Ok(Some(slips::program(*self, input)))
@@ -362,6 +384,9 @@ impl Calls for Proved {
     }
     fn delivery_day(&self, quarter: u64, holidays: &[u32], day: &mut u64) -> u32 {
         host::delivery_day(quarter, holidays, day)
+    }
+    fn take_back(&self, archive: &mut [u8]) -> u32 {
+        host::take_back(archive)
     }
     fn program(&self, input: &[u8]) -> io::Result<Option<Vec<u8>>> {
         self.lines(input)
@@ -397,6 +422,11 @@ fn run(calls: &dyn Calls, example: &Example) -> io::Result<Option<Outcome>> {
         Call::Append { owner, new } => {
             let mut later = archive.to_vec();
             let number = calls.append(&mut later, *owner, new);
+            Outcome::Changed { number, archive: later }
+        }
+        Call::TakeBack => {
+            let mut later = archive.to_vec();
+            let number = calls.take_back(&mut later);
             Outcome::Changed { number, archive: later }
         }
         Call::Fresh => {

@@ -1,6 +1,6 @@
-//! Reader of redispatch archives: settle, show, fresh, append, audit, the program and delivery day.
-//! Written from docs/FORMAT.md and docs/RULES.md, version 1.2, alone ("F" and "R" below, with section numbers):
-//! F 1 to 16, and of R the rules, 1 to 6 and 13, and the worked numbers, 7, 8, 10 and 13.
+//! Reader of redispatch archives: settle, show, fresh, append, audit, the program, delivery day and take back.
+//! Written from docs/FORMAT.md and docs/RULES.md, version 1.3, alone ("F" and "R" below, with section numbers):
+//! F 1 to 17, and of R the rules, 1 to 6 and 13, and the worked numbers, 7, 8, 10 and 13.
 //!
 //! Build: rustc -O --edition 2021 reader.rs
 //! Standard input: cases, one after the other. Standard output: one line for each case.
@@ -593,6 +593,50 @@ fn audit(bytes: &[u8]) -> u32 {
     test_audit(bytes).err().unwrap_or(0)
 }
 
+// ---------------------------------------------------------------- take back (F 17)
+
+/// Places of the links that count in a used record; the head's byte 0 is no kind.
+fn link_places(archive: &Archive, number: usize) -> &'static [usize] {
+    if number == HEAD {
+        return &[FIRST];
+    }
+    match archive.record(number)[0] {
+        PLANT | MEASURE => &[NEXT, FIRST, SECOND],
+        CURVE_POINT | BEFORE_QUARTER | QUARTER => &[NEXT],
+        _ => &[],
+    }
+}
+
+/// Tests of take back: 1, 19. Gives the last record's number and the place (in bytes) of the one link that names it.
+/// Links are compared, not followed: no 2, no 3.
+fn test_take_back(bytes: &[u8]) -> Result<(usize, usize), Refusal> {
+    let archive = Archive::open(bytes)?;
+    let last = archive.used - 1;
+    if last == HEAD {
+        return Err(19);
+    }
+    let mut naming = None;
+    for holder in 0..archive.used {
+        for &at in link_places(&archive, holder) {
+            if archive.link(holder, at) == last && naming.replace(RECORD * holder + at).is_some() {
+                return Err(19);
+            }
+        }
+    }
+    naming.map(|place| (last, place)).ok_or(19)
+}
+
+fn take_back(bytes: &mut [u8]) -> u32 {
+    let (last, place) = match test_take_back(bytes) {
+        Ok(found) => found,
+        Err(number) => return number,
+    };
+    bytes[RECORD * last..RECORD * (last + 1)].fill(0);
+    bytes[place..place + 4].fill(0);
+    bytes[USED..USED + 4].copy_from_slice(&(last as u32).to_le_bytes());
+    0
+}
+
 // ---------------------------------------------------------------- the program (F 12)
 
 fn push_number(line: &mut Vec<u8>, value: i64) {
@@ -750,6 +794,10 @@ fn run_cases(input: &mut impl Read, output: &mut impl Write) -> io::Result<()> {
                 };
                 let number = delivery_day_c(a, &list, &mut lent);
                 writeln!(output, "7 {number} {}", u64::from_le_bytes(lent))?;
+            }
+            8 => {
+                let number = take_back(&mut archive);
+                writeln!(output, "8 {number} {:016x}", hash(&archive))?;
             }
             other => return Err(no_case(format!("no call {other}"))),
         }
@@ -1408,6 +1456,146 @@ mod self_test {
         tests.same("R 13 dated, program", (printed(&bytes), expected.len()), (expected, 617));
     }
 
+    /// The rows of F 17: all over `a`, with a few more from its text; then `month` and `shared`.
+    fn section_17(tests: &mut Tests) {
+        // Bytes added at the end, changes; the record taken back, and record and place of the link that named it.
+        type Row<'a> = (&'a [u8], &'a [Set], usize, (usize, usize));
+        let rows: &[Row] = &[
+            (&[], &[], 6, (5, 4)),
+            (&[0; 32], &[Number(0, 4, 8), Number(6, 4, 7), Byte(7, 0, 5)], 7, (6, 4)),
+            (&[0xff; 64], &[], 6, (5, 4)),
+            (&[], &[Number(0, 4, 5)], 4, (2, 12)),
+            (&[], &[Number(0, 4, 4)], 3, (2, 8)),
+            (&[], &[Number(0, 4, 3)], 2, (1, 12)),
+            (&[], &[Number(0, 4, 2)], 1, (0, 8)),
+            // Links that need not be allowed, nor stand on a chain.
+            (&[], &[Number(5, 4, 0), Number(1, 8, 6)], 6, (1, 8)),
+            (&[], &[Number(5, 4, 0), Number(2, 8, 6)], 6, (2, 8)),
+            (&[], &[Number(5, 4, 0), Number(2, 4, 6)], 6, (2, 4)),
+            (&[], &[Number(4, 4, 0)], 6, (5, 4)),
+            // All four bytes of link and U.
+            (&[0; 32 * 250], &[Number(0, 4, 257), Number(6, 4, 256)], 256, (6, 4)),
+            (&[0; 32 * 249], &[Number(0, 4, 256), Number(6, 4, 255)], 255, (6, 4)),
+            // The last record's bytes, links and kind.
+            (&[], &[Number(6, 28, 9)], 6, (5, 4)),
+            (&[], &[Number(6, 4, 4)], 6, (5, 4)),
+            (&[], &[Number(6, 4, 7)], 6, (5, 4)),
+            (&[], &[Byte(6, 0, 9)], 6, (5, 4)),
+            (&[], &[Byte(6, 0, 0), Number(6, 4, 6), Number(6, 8, 6), Number(6, 12, 6)], 6, (5, 4)),
+            (&[], &[Byte(3, 0, 9)], 6, (5, 4)),
+            // What names nothing: other numbers, fields, free bytes, unknown kinds, unused records.
+            (&[], &[Number(1, 4, 16_777_222)], 6, (5, 4)),
+            (&[], &[Number(1, 4, 65_542)], 6, (5, 4)),
+            (&[], &[Number(3, 8, 6)], 6, (5, 4)),
+            (&[], &[Number(4, 12, 6), Number(6, 8, 6), Number(6, 12, 6)], 6, (5, 4)),
+            (&[], &[Byte(3, 0, 2), Number(3, 8, 6)], 6, (5, 4)),
+            (&[], &[Number(2, 16, 6)], 6, (5, 4)),
+            (&[], &[Number(0, 12, 6)], 6, (5, 4)),
+            (&[], &[Byte(4, 0, 9), Number(4, 8, 6)], 6, (5, 4)),
+            (&[], &[Byte(4, 0, 9), Number(4, 4, 6)], 6, (5, 4)),
+            (&[0; 32], &[Byte(7, 0, 5), Number(7, 4, 6)], 6, (5, 4)),
+            // Named by itself alone.
+            (&[], &[Number(5, 4, 0), Number(6, 4, 6)], 6, (6, 4)),
+            (&[], &[Number(5, 4, 0), Byte(6, 0, 1), Number(6, 8, 6)], 6, (6, 8)),
+            (&[], &[Number(5, 4, 0), Byte(6, 0, 1), Number(6, 12, 6)], 6, (6, 12)),
+            // Not in the table: next links of kinds 1, 4 and 2; bytes 12-15 of kinds 4 and 2; a plant's bytes 16-19.
+            (&[], &[Number(5, 4, 0), Number(1, 4, 6)], 6, (1, 4)),
+            (&[], &[Number(5, 4, 0), Number(3, 4, 6)], 6, (3, 4)),
+            (&[], &[Number(5, 4, 0), Byte(3, 0, 2), Number(3, 4, 6)], 6, (3, 4)),
+            (&[], &[Number(3, 12, 6), Number(1, 16, 6)], 6, (5, 4)),
+            (&[], &[Byte(3, 0, 2), Number(3, 12, 6)], 6, (5, 4)),
+        ];
+        let taken = |bytes: &[u8]| {
+            let mut later = bytes.to_vec();
+            (take_back(&mut later), later)
+        };
+        let expected = |bytes: &[u8], last: usize, (holder, at): (usize, usize)| {
+            let mut later = bytes.to_vec();
+            later[RECORD * last..][..RECORD].fill(0);
+            set(&mut later, &[Number(holder, at, 0), Number(0, 4, last as i64)]);
+            (0, later)
+        };
+        for (row, &(added, changes, last, link)) in rows.iter().enumerate() {
+            let mut bytes = [&hex(CASE_A)[..], added].concat();
+            set(&mut bytes, changes);
+            tests.same(&format!("F 17 a, row {row}"), taken(&bytes), expected(&bytes, last, link));
+        }
+
+        let rows: &[(&str, &[Set], u32)] = &[
+            ("by itself and another", &[Number(6, 4, 6)], 19),
+            ("by itself twice", &[Number(5, 4, 0), Byte(6, 0, 3), Number(6, 4, 6), Number(6, 8, 6)], 19),
+            ("by none", &[Number(5, 4, 0)], 19),
+            ("by two", &[Number(4, 4, 6)], 19),
+            ("by the head and another", &[Number(0, 8, 6)], 19),
+            ("by two links of one record", &[Number(5, 4, 0), Number(2, 4, 6), Number(2, 8, 6)], 19),
+            ("by plant and measure", &[Number(5, 4, 0), Number(2, 12, 6), Number(1, 12, 6)], 19),
+            ("by kind 9 only", &[Byte(5, 0, 9)], 19),
+            ("by kind 0 only", &[Byte(5, 0, 0)], 19),
+            ("by kind 6 only", &[Byte(5, 0, 6)], 19),
+            ("the head alone", &[Number(0, 4, 1)], 19),
+            ("the head alone, zero link", &[Number(0, 4, 1), Number(0, 8, 0)], 19),
+            ("text, the head alone", &[Byte(0, 0, 66), Number(0, 4, 1)], 1),
+            ("text, by none", &[Byte(0, 0, 66), Number(5, 4, 0)], 1),
+            ("U = 0", &[Number(0, 4, 0)], 1),
+            ("U = 8", &[Number(0, 4, 8)], 1),
+        ];
+        for &(name, changes, number) in rows {
+            let bytes = case_a(changes);
+            tests.same(&format!("F 17 a, {name}"), taken(&bytes), (number, bytes));
+        }
+        for length in [33, 0] {
+            let bytes = hex(CASE_A)[..length].to_vec();
+            tests.same(&format!("F 17 a, cut to {length} bytes"), taken(&bytes), (1, bytes));
+        }
+
+        let month = filed((OTHER, SPITZ, 1_000_000), (NEGATIVE, 2), &vec![quarter(1_000, 0, 0, 3_000); 2_977]);
+        tests.same("F 17 month", taken(&month) == expected(&month, 2_979, (2_978, 4)), true);
+
+        let mut shared = vec![0; RECORD];
+        fresh(&mut shared);
+        set(&mut shared, &[Number(0, 4, 94), Number(0, 8, 1)]);
+        shared.extend(record(PLANT, OTHER, SPITZ, &[(12, 2), (16, 1_000_000)]));
+        for n in 2..=47 {
+            shared.extend(record(MEASURE, NEGATIVE, 2, &[(4, (n + 1) % 48), (12, 48)]));
+        }
+        for n in 0..=45 {
+            shared.extend(record(QUARTER, 0, 0, &[(4, (49 + n) % 94), (8, n), (20, 3 * n)]));
+        }
+        tests.same("F 15 shared, audit", audit(&shared), 17);
+        tests.same("F 17 shared", taken(&shared), expected(&shared, 93, (92, 4)));
+    }
+
+    /// F 17, the worked case and 'What follows': an append and a filed archive taken back.
+    fn section_17_around_append(tests: &mut Tests) {
+        let before = one_more(hex(CASE_A));
+        let mut bytes = before.clone();
+        let numbers = [append(&mut bytes, 2, &quarter(0, 0, 0, 0)), take_back(&mut bytes)];
+        tests.same("F 17 append, take back", (numbers, &bytes), ([0, 0], &before));
+        let mut again = case_a(&[Number(5, 4, 0), Number(0, 4, 6)]);
+        again[RECORD * 6..].fill(0);
+        tests.same("F 17 take back again", (take_back(&mut bytes), bytes), (0, one_more(again)));
+
+        // What stood in record U is lost; the rest is as before.
+        let mut bytes = [&hex(CASE_A)[..], &[0xff; 64]].concat();
+        let mut expected = bytes.clone();
+        expected[RECORD * 7..RECORD * 8].fill(0);
+        let numbers = [append(&mut bytes, 2, &quarter(0, 0, 0, 0)), take_back(&mut bytes)];
+        tests.same("F 17 append, take back over ff", (numbers, bytes), ([0, 0], expected));
+
+        // Record 6, after 4 and before 5, is taken back whatever it names; audit then misses record 5.
+        let mut bytes = case_a(&[Number(4, 4, 6), Number(6, 4, 5), Number(5, 4, 0)]);
+        tests.same("F 17 own link", [audit(&bytes), take_back(&mut bytes), audit(&bytes)], [2, 0, 17]);
+
+        // Down to the fresh archive, sound after each call; then 19.
+        let mut bytes = wind(2_000_000, &vec![before_quarter(900_000, 20); 4], &[quarter(350_000, 0, 30, 0)]);
+        let mut empty = vec![0; bytes.len()];
+        fresh(&mut empty);
+        let numbers: Vec<[u32; 2]> = (0..13).map(|_| [take_back(&mut bytes), audit(&bytes)]).collect();
+        let mut expected = vec![[0, 0]; 12];
+        expected.push([19, 0]);
+        tests.same("F 17 down to the fresh archive", (numbers, bytes), (expected, empty));
+    }
+
     /// One case as it stands in the input.
     fn case(call: u8, a: u64, b: u64, parts: [&[u8]; 4]) -> Vec<u8> {
         let mut bytes = vec![call];
@@ -1434,18 +1622,25 @@ mod self_test {
             case(6, 0, 0, [&[], &[], archive, &[]]),
             case(7, 937_921, 0, [&9_806u32.to_le_bytes(), &[0xee; 8], &[], &[]]),
             case(7, 0, 0, [&[], &[0xff; 8], &[], &[]]),
+            case(8, 0, 0, [&[], &[], archive, &[]]),
+            case(8, 0, 0, [&[], &[], &archive[..33], &[]]),
         ];
+        let mut shorter = case_a(&[Number(5, 4, 0), Number(0, 4, 6)]);
+        shorter[RECORD * 6..].fill(0);
         let (_, list, result) = from_c(archive, 24, 24);
         let text = "M 1 1 3 224999 6\nQ 1 74999\nQ 2 75000\nQ 3 75000\n";
         let expected = format!(
-            "1 0 {:016x} {:016x}\n2 192\n2 224\n3 1 {:016x}\n4 16 {:016x}\n5 0\n6 {:016x} {}\n7 0 9807\n7 18 {}\n",
+            "1 0 {:016x} {:016x}\n2 192\n2 224\n3 1 {:016x}\n4 16 {:016x}\n5 0\n6 {:016x} {}\n7 0 9807\n7 18 {}\n\
+            8 0 {:016x}\n8 1 {:016x}\n",
             hash(&list),
             hash(&result),
             hash(&archive[..33]),
             hash(archive),
             hash(text.as_bytes()),
             text.len(),
-            u64::MAX
+            u64::MAX,
+            hash(&shorter),
+            hash(&archive[..33])
         );
         let mut output = Vec::new();
         let ended = run_cases(&mut &input.concat()[..], &mut output).is_ok();
@@ -1465,6 +1660,8 @@ mod self_test {
         delivery_days(&mut tests);
         section_15_dates(&mut tests);
         dated(&mut tests);
+        section_17(&mut tests);
+        section_17_around_append(&mut tests);
         sizes(&mut tests);
         println!("{} passed, {} failed", tests.passed, tests.failed);
         (tests.failed != 0) as i32

@@ -4,8 +4,9 @@
 //! Exit status 1 if a refusal number, a pairing or a slip was never reached, or a call made with one fault got
 //! another number.
 
-use reference::archive::{field, used};
+use reference::archive::{field, link, record, used, FIRST, NEXT, SECOND};
 use reference::calendar::{next_days, Date, Day, QuarterHour, LAST};
+use reference::filing::names;
 use reference::generate::{self, Call, NUMBERS, SETTLED};
 use reference::settle::{first_quarter, terms, Pairing};
 use reference::slips::{self, Of, Slip, SLIPS};
@@ -112,6 +113,100 @@ fn delivered(tally: &mut Tally, quarter: u64, holidays: &[u32], day: u64) {
     tally.size("delivery days of quarter 3,506,400", quarter == LAST.0);
 }
 
+/// A last record of each kind, the first of its chain or behind others.
+const TAKEN: [[&str; 2]; 5] = [
+    ["taken back: the first plant", "taken back: a plant behind others"],
+    ["taken back: a plant's first curve point", "taken back: a curve point behind others"],
+    ["taken back: a plant's first measure", "taken back: a measure behind others"],
+    ["taken back: a measure's first before-quarter", "taken back: a before-quarter behind others"],
+    ["taken back: a measure's first quarter", "taken back: a quarter behind others"],
+];
+
+/// An archive that isn't refused with 1, asked for its last record.
+fn asked_back(tally: &mut Tally, archive: &[u8], used: u64, number: u32) {
+    let all = archive.len() as u64 / 32;
+    let head = record(archive, 0);
+    tally.size("U = 1 with the head's link 0", used == 1 && link(head, FIRST) == 0);
+    tally.size("U = 1 with the head's link not 0", used == 1 && link(head, FIRST) != 0);
+    tally.size("U = 1 in an archive of zeros", used == 1 && archive[8..].iter().all(|&byte| byte == 0));
+    if used == 1 {
+        return;
+    }
+    let last = used - 1;
+    let taken = number == 0;
+    let own = record(archive, last);
+    let kind_of = |number: u64| record(archive, number)[0];
+    let known = |number: u64| (1..=5).contains(&kind_of(number));
+    let names = names(archive, used, last);
+    let at_last = names.iter().filter(|name| name.0 == last).count();
+    let sound = reference::audit(archive) == 0;
+
+    for (kind, [first, behind]) in (1..).zip(TAKEN) {
+        let fits = sound && kind_of(last) == kind;
+        tally.size(first, fits && names[0].1 != NEXT);
+        tally.size(behind, fits && names[0].1 == NEXT);
+    }
+    let unused = |empty: bool| used < all && archive[32 * used as usize..].iter().all(|&byte| byte == 0) == empty;
+    tally.size("taken back in a sound archive before zeros", sound && unused(true));
+    tally.size("taken back in a sound archive before old bytes", sound && unused(false));
+    tally.size("taken back in a sound archive that is full", sound && used == all);
+    tally.size("taken back in an archive that audit refuses", taken && !sound);
+    tally.size("taken back from 65,535 records", taken && used == 65_535);
+    tally.size("taken back from 256 records", taken && used == 256);
+
+    tally.size("last record named by none", names.is_empty());
+    tally.size("last record named by two links of one record", names.len() == 2 && names[0].0 == names[1].0);
+    tally.size("last record named by links of two records", names.len() == 2 && names[0].0 != names[1].0);
+    tally.size("last record named by the head and another", names.len() > 1 && names[0].0 == 0);
+    tally.size("last record named by more than two links", names.len() > 2);
+    for (at, what) in [
+        (NEXT, "last record named by its own bytes 4-7 alone"),
+        (FIRST, "last record named by its own bytes 8-11 alone"),
+        (SECOND, "last record named by its own bytes 12-15 alone"),
+    ] {
+        tally.size(what, names[..] == [(last, at)]);
+    }
+    tally.size("last record named by itself and another", at_last > 0 && at_last < names.len());
+    tally.size("last record named by itself twice", at_last > 1 && at_last == names.len());
+
+    let holds = |number: u64, at: &[usize]| at.iter().any(|&at| link(record(archive, number), at) == last);
+    let links = [NEXT, FIRST, SECOND];
+    let unknown = (1..last).any(|number| !known(number) && holds(number, &links));
+    tally.size("last record named by an unknown kind only", names.is_empty() && unknown);
+    tally.size("last record named by an unknown kind and a link", taken && unknown);
+    let right = match names[..] {
+        [(0, _)] => 1,
+        [(holder, NEXT)] => kind_of(holder),
+        [(holder, FIRST)] => kind_of(holder) + 1,
+        [(holder, _)] => kind_of(holder) + 2,
+        _ => 0,
+    };
+    tally.size("last record named by a link for another kind", taken && right != kind_of(last) && known(last));
+    tally.size("last record of unknown kind", taken && !known(last));
+    tally.size("last record of kind 0", taken && own[0] == 0);
+    tally.size("last record of kind 6", taken && own[0] == 6);
+    tally.size("last record of unknown kind with its own number", taken && !known(last) && holds(last, &links));
+    let own_links = if matches!(own[0], 1 | 3) { &links[..] } else { &links[..1] };
+    let others = own_links.iter().any(|&at| ![0, last].contains(&link(own, at)));
+    tally.size("last record that names others", taken && known(last) && others);
+    for (kind, what) in [
+        (2, "its number in bytes 8-15 of a curve point"),
+        (4, "its number in bytes 8-15 of a before-quarter"),
+        (5, "its number in bytes 8-15 of a quarter"),
+    ] {
+        tally.size(what, taken && (1..used).any(|number| kind_of(number) == kind && holds(number, &links[1..])));
+    }
+    tally.size("its number in bytes 16-31", taken && (0..used).any(|number| holds(number, &[16, 20, 24, 28])));
+    tally.size("its number in the head's bytes 12-15", taken && holds(0, &[12]));
+    tally.size("its number in an unused record's links", taken && (used..all).any(|number| holds(number, &links)));
+    let low = |bits: u32| {
+        let like = |to: u64| to != last && to % (1 << bits) == last;
+        (1..used).any(|number| known(number) && like(link(record(archive, number), NEXT)))
+    };
+    tally.size("its number in the low 16 bits of a link", taken && low(16));
+    tally.size("its number in the low 24 bits of a link", taken && low(24));
+}
+
 fn one_call(tally: &mut Tally, seed: u64, index: u64) {
     let case = generate::call(seed, index);
     let number = match case.call {
@@ -201,6 +296,19 @@ fn one_call(tally: &mut Tally, seed: u64, index: u64) {
             tally.slips(Of::Fresh, (number, later), |slip| {
                 let mut later = archive.clone();
                 (slips::fresh(slip, &mut later), later)
+            });
+            Some(number)
+        }
+        Call::TakeBack { archive } => {
+            let mut later = archive.clone();
+            let number = reference::take_back(&mut later);
+            tally.number("take back", number);
+            if let Ok(used) = used(&archive) {
+                asked_back(tally, &archive, used, number);
+            }
+            tally.slips(Of::TakeBack, (number, later), |slip| {
+                let mut later = archive.clone();
+                (slips::take_back(slip, &mut later), later)
             });
             Some(number)
         }

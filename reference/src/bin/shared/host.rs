@@ -23,10 +23,11 @@ mod c {
         pub fn sandegmur_audit(archive: *const u8, archive_length: usize) -> u32;
         pub fn sandegmur_show(archive: *const u8, archive_length: usize, number: u64) -> u64;
         pub fn sandegmur_delivery_day(quarter: u64, holidays: *const u32, holiday_count: usize, day: *mut u64) -> u32;
+        pub fn sandegmur_take_back(archive: *mut u8, archive_length: usize) -> u32;
     }
 }
 
-// Safety, of all six: pointer and length of every part come from one live slice, and the parts don't overlap.
+// Safety, of all seven: pointer and length of every part come from one live slice, and the parts don't overlap.
 
 pub fn settle(archive: &[u8], p: u64, k: u64, list: &mut [u8], result: &mut [u8]) -> u32 {
     unsafe {
@@ -65,4 +66,8 @@ pub fn show(archive: &[u8], number: u64) -> u64 {
 #[allow(dead_code)]
 pub fn delivery_day(quarter: u64, holidays: &[u32], day: &mut u64) -> u32 {
     unsafe { c::sandegmur_delivery_day(quarter, holidays.as_ptr(), holidays.len(), day) }
+}
+
+pub fn take_back(archive: &mut [u8]) -> u32 {
+    unsafe { c::sandegmur_take_back(archive.as_mut_ptr(), archive.len()) }
 }

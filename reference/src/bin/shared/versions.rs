@@ -17,6 +17,7 @@ type Settle = unsafe extern "C" fn(*const u8, usize, u64, u64, *mut u8, usize, *
 type Append = unsafe extern "C" fn(*mut u8, usize, u64, *const u8, usize) -> u32;
 type Audit = unsafe extern "C" fn(*const u8, usize) -> u32;
 type DeliveryDay = unsafe extern "C" fn(u64, *const u32, usize, *mut u64) -> u32;
+type TakeBack = unsafe extern "C" fn(*mut u8, usize) -> u32;
 
 /// The library at one place of the code.
 pub struct Place {
@@ -25,6 +26,8 @@ pub struct Place {
     audit: Audit,
     /// None in a version before dates.
     delivery_day: Option<DeliveryDay>,
+    /// None in a version before taking back.
+    take_back: Option<TakeBack>,
 }
 
 pub struct Version {
@@ -50,6 +53,10 @@ impl Version {
     pub fn delivers(&self) -> bool {
         self.places.iter().all(|place| place.delivery_day.is_some())
     }
+
+    pub fn takes_back(&self) -> bool {
+        self.places.iter().all(|place| place.take_back.is_some())
+    }
 }
 
 impl Place {
@@ -72,11 +79,15 @@ impl Place {
                     object,
                     b"sandegmur_delivery_day\0".as_ptr().cast(),
                 )),
+                take_back: std::mem::transmute::<*mut c_void, Option<TakeBack>>(dlsym(
+                    object,
+                    b"sandegmur_take_back\0".as_ptr().cast(),
+                )),
             }
         }
     }
 
-    // Safety, of all four: pointer and length of every part come from one live slice, and the parts don't overlap.
+    // Safety, of all five: pointer and length of every part come from one live slice, and the parts don't overlap.
 
     pub fn settle(&self, archive: &[u8], p: u64, k: u64, list: &mut [u8], result: &mut [u8]) -> u32 {
         let (lent, places, parts) = (archive.as_ptr(), list.as_mut_ptr(), result.as_mut_ptr());
@@ -94,5 +105,10 @@ impl Place {
     pub fn delivery_day(&self, quarter: u64, holidays: &[u32], day: &mut u64) -> u32 {
         let call = self.delivery_day.expect("a version with dates");
         unsafe { call(quarter, holidays.as_ptr(), holidays.len(), day) }
+    }
+
+    pub fn take_back(&self, archive: &mut [u8]) -> u32 {
+        let call = self.take_back.expect("a version that takes back");
+        unsafe { call(archive.as_mut_ptr(), archive.len()) }
     }
 }
