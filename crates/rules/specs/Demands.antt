@@ -70,19 +70,20 @@ Files =
 abbrev pub AreBytes : List ℕ → Type 0
 AreBytes archive = (i : ℕ) → byteAt archive i < 2 ^ 8
 
--- an append that isn't refused, on a sound archive whose place U is all zero, followed by taking back, gives the earlier archive
+-- an append that isn't refused, on a sound archive whose record U is all zero, followed by taking back, gives the earlier archive, byte
+-- for byte
 abbrev pub TakesAppendBack : Type 0
 TakesAppendBack =
     (archive later : List ℕ) (used owner : ℕ) (new : List ℕ) → AreBytes archive → Sound archive → usedOf archive ≡ given used
     → recordAt archive used ≡ replicate 32 0 → append archive owner new ≡ given later → takeBack later ≡ given archive
 
--- of a sound archive with more than its head the last record is taken back, and the archive stays sound
+-- a sound archive with more than its head is never refused; it has one record less afterwards, and stays sound
 abbrev pub TakesBackSoundly : Type 0
 TakesBackSoundly =
     (archive : List ℕ) (used : ℕ) → Sound archive → usedOf archive ≡ given used → 1 < used
     → (later : List ℕ) × (takeBack archive ≡ given later) × (usedOf later ≡ given (used - 1)) × Sound later
 
--- filings into a fresh archive, none refused, and then some taken back: the archive of those before them
+-- filings into a fresh archive, none refused, and then some of them taken back, up to all: the archive of the others, byte for byte
 abbrev pub TakesFilingsBack : Type 0
 TakesFilingsBack =
     (archive start end : List ℕ) (filings : List Filing) (times : ℕ) → fresh archive ≡ given start → fileAll filings start ≡ given end

@@ -51,6 +51,6 @@ unfoldable pub linkPlaces : List ℕ → ℕ → List ℕ
 linkPlaces archive zero = []
 linkPlaces archive (suc n) = linkPlaces archive n ++ map (standsAt n) (linksAt archive n)
 
--- the places of the links of used records that name record n
+-- the places of the links of the head and of used records of known kind that name record n, by their value alone (01, audit; 02, 2)
 unfoldable pub namers : List ℕ → ℕ → ℕ → List ℕ
 namers archive used n = keep (λ place. eqb (linkAt archive place) n) (linkPlaces archive used)

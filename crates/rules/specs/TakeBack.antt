@@ -9,7 +9,7 @@ use Rattle.rules.specs.Archive.{usedOf}
 use Rattle.rules.specs.Encoding.{word, put}
 use Rattle.rules.specs.Links.{namers}
 
--- the one of these places of links; 19 unless it is precisely one
+-- the place of the one link that names a record, out of those of all that do; 19 unless there is precisely one
 abbrev pub onlyPlace : List ℕ → Outcome ℕ
 onlyPlace [] = refused lastNotNamedOnce
 onlyPlace (place ∷ []) = given place
@@ -19,8 +19,9 @@ onlyPlace (place ∷ (another ∷ rest)) = refused lastNotNamedOnce
 unfoldable pub takenBack : List ℕ → ℕ → ℕ → List ℕ
 takenBack archive used place = put (put (put archive (32 * (used - 1)) (replicate 32 0)) place (word 0)) 4 (word (used - 1))
 
--- 1, 19: the head is never taken back, and zero names nothing. A link of the head or of a used record of known kind names the last record
--- by its value alone, allowed or not, on a chain or not, the last record's own links too
+-- 1; then 19, if U is 1 or the last record, U - 1, isn't named by precisely one link of the head or of a used record of known kind. With
+-- U = 1 that record is the head, whose number the zero links have, and nothing is compared. A link names the last record by its value
+-- alone, allowed or not, on a chain or not; the last record's own links are among them
 unfoldable pub takeBack : List ℕ → Outcome (List ℕ)
 takeBack archive = do
   used ← usedOf archive
@@ -28,7 +29,7 @@ takeBack archive = do
   place ← onlyPlace (namers archive used (used - 1))
   given (takenBack archive used place)
 
--- so many times, one after another
+-- taken back so many times, one after another; refused if one is
 abbrev pub takeBackTimes : ℕ → List ℕ → Outcome (List ℕ)
 takeBackTimes zero archive = given archive
 takeBackTimes (suc times) archive = takeBackTimes times archive >>= takeBack

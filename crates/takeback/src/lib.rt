@@ -66,7 +66,7 @@ enum Only {
 }
 
 // Over the links of all used records; the second one decides.
-fn only_naming(archive: &[u8], used: u64, named: u64) -> Only
+fn only_link_to(archive: &[u8], used: u64, named: u64) -> Only
     requires { ⌜ 32 * used ≤ length (now archive) ⌝ }
     ensures { λ r. ⌜ onlyOutcome r ≡ onlyPlace (namers (now (archive .entry)) used named) ⌝ }
 {
@@ -106,7 +106,7 @@ fn find_last(archive: &[u8]) -> Last
     if used == 1 {
         return Last::Refused(refusal::LAST_NOT_NAMED_ONCE);
     }
-    match only_naming(archive, used, used - 1) {
+    match only_link_to(archive, used, used - 1) {
         Only::At(place) => Last::Named(used, place),
         Only::Refused(number) => Last::Refused(number),
     }

@@ -14,10 +14,10 @@ use Rattle.takeback.proofs.find_last.Tie as tie
 use Rattle.takeback.proofs.find_last.Reads as reads
 use Rattle.takeback.proofs.find_last.Lts as lts
 use Rattle.archive.proofs.read_head.Reads as read-head-reads
-use Rattle.takeback.proofs.only_naming.Reads as only-naming-reads
+use Rattle.takeback.proofs.only_link_to.Reads as only-link-to-reads
 
 abbrev claims : lts.Claims
-claims = (read-head-reads.Asked, read-head-reads.Learnt, only-naming-reads.Asked, only-naming-reads.Learnt)
+claims = (read-head-reads.Asked, read-head-reads.Learnt, only-link-to-reads.Asked, only-link-to-reads.Learnt)
 
 used-is : (c : lts.After-used claims reads.Pre reads.Post) → usedOf (c .before .before .before .before .args .archive .now) ≡ given (c .used .given .0 .0)
 used-is c = let r = c .before .before .read-head in opened _ (r .result) (r .ensures) _ (c .used .given .1) .is
@@ -42,11 +42,11 @@ returns c =
 returns-2 : tie.Need-returns-2
 returns-2 c = take-back-head-alone _ _ (used-is (c .before .before)) (omega arith)
 
-sub-only-naming : tie.Need-sub-only-naming
-sub-only-naming c = let w = used-within _ _ (used-is (c .before .before)) in omega arith
+sub-only-link-to : tie.Need-sub-only-link-to
+sub-only-link-to c = let w = used-within _ _ (used-is (c .before .before)) in omega arith
 
-only-naming-requires : tie.Need-only-naming-requires
-only-naming-requires c κs = let w = used-within _ _ (used-is (c .before .before)) in w .1
+only-link-to-requires : tie.Need-only-link-to-requires
+only-link-to-requires c κs = let w = used-within _ _ (used-is (c .before .before)) in w .1
 
 enum-known-place : tie.Need-enum-known-place
 enum-known-place c = search needs
@@ -56,15 +56,15 @@ enum-known-number-2 c = search needs
 
 returns-3 : tie.Need-returns-3
 returns-3 c =
-    let at-only-naming = c .before .before .before in
-    let at-if1 = at-only-naming .before in
-    once _ _ (used-is (at-if1 .before .before)) (above at-if1) (at-only-naming .only-naming .ensures) (c .before .place .given .1)
+    let at-only-link-to = c .before .before .before in
+    let at-if1 = at-only-link-to .before in
+    once _ _ (used-is (at-if1 .before .before)) (above at-if1) (at-only-link-to .only-link-to .ensures) (c .before .place .given .1)
 
 returns-4 : tie.Need-returns-4
 returns-4 c =
-    let at-only-naming = c .before .before .before in
-    let at-if1 = at-only-naming .before in
-    not-once _ _ (used-is (at-if1 .before .before)) (above at-if1) (at-only-naming .only-naming .ensures) (c .before .number2 .given .1)
+    let at-only-link-to = c .before .before .before in
+    let at-if1 = at-only-link-to .before in
+    not-once _ _ (used-is (at-if1 .before .before)) (above at-if1) (at-only-link-to .only-link-to .ensures) (c .before .number2 .given .1)
 
 pub find-last-spec : {M : Type 1} → statement M
 find-last-spec =
@@ -75,8 +75,8 @@ find-last-spec =
     enum-known-number
     returns
     returns-2
-    sub-only-naming
-    only-naming-requires
+    sub-only-link-to
+    only-link-to-requires
     enum-known-place
     enum-known-number-2
     returns-3

@@ -1,4 +1,4 @@
--- `takeback::only_naming` meets its contract.
+-- `takeback::only_link_to` meets its contract.
 use mathlib.Core.Path.{sym, _∙_, ap}
 use mathlib.Core.Logic.{⊎-elim, inl, inr}
 use Prim.Native.Nat.{_-_, _≤_}
@@ -6,8 +6,8 @@ use native.Mathlib.Omega.{arith}
 use borrow.Author.Needs.{needs}
 use Rattle.takeback.specs.declared.Naming.the-variants as naming
 use Rattle.takeback.proofs.Namings.{Met, met-none, met-second, met-on, met-nowhere, met-once}
-use Rattle.takeback.proofs.only_naming.Statement.{statement}
-use Rattle.takeback.proofs.only_naming.Tie as tie
+use Rattle.takeback.proofs.only_link_to.Statement.{statement}
+use Rattle.takeback.proofs.only_link_to.Tie as tie
 
 abbrev Inv-loop : tie.InvT-loop
 Inv-loop archive used named met₀ n₀ met n = Met archive named n met × (n ≤ used)
@@ -61,8 +61,8 @@ returns-3 c =
     let l = c .before .before .loop in
     met-once (l .inv .0) (l .inv .1) (c .before .loop-test .left) (c .if2 .left)
 
-pub only-naming-spec : {M : Type 1} → statement M
-only-naming-spec =
+pub only-link-to-spec : {M : Type 1} → statement M
+only-link-to-spec =
     tie.close
     (tie.spec
     Inv-loop
