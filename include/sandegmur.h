@@ -49,7 +49,7 @@ enum {
     SANDEGMUR_BAD_OWNER = 15,          /* owner unused or of the wrong kind */
     SANDEGMUR_ARCHIVE_FULL = 16,       /* U equals all records */
     SANDEGMUR_NOT_NAMED_ONCE = 17,     /* audit: a record named by none or several */
-    SANDEGMUR_NOT_IN_CALENDAR = 18,    /* dated measure: first or last quarter past 3,506,400; delivery day: 0 or past it */
+    SANDEGMUR_NOT_IN_CALENDAR = 18,    /* dated measure: a quarter past 3,506,400; delivery day: quarter 0 or past it */
     SANDEGMUR_LAST_NOT_NAMED_ONCE = 19 /* taking back: U is 1, or the last record not named by precisely one link */
 };
 

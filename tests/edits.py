@@ -19,7 +19,11 @@ Of an edit with several, rt tells only that the crate isn't proved. So each of t
 two the body of the same: a proof reads its own function's body and the contracts of others. What the log says of a function is then about
 its own wrong program, and for each wrong program the log must have a refusal there: at a fact, and not at a name that is missing, at the
 proof's shape, or only because something else wasn't admitted. No function that is as it should be may have a refusal of its own. Every
-public function has two wrong programs or more."""
+public function has two wrong programs or more.
+
+A wrong rule changes definitions, which many proofs read, and a list of worked examples has to refuse it, or a law. Those that lists refuse
+share an edit where no list can depend on what another one changes: a list depends on the definitions whose names stand in its text, in
+their texts and so on, and on every operator. What the log says of a list is then about its own wrong rule."""
 
 import re
 import sys
@@ -37,6 +41,10 @@ ERROR = re.compile(r"^\S*?/(?:proofs|specs)/(\S+?)(?:/Proof)?\.antt:\d+:\d+: err
 UNPROVED = re.compile(r"^note: \S*?/(src/\w+\.rt):(\d+):\d+: it is not proved that .* \(`([^`]+)`\)$", re.M)
 PASSED_ON = re.compile(r".* was not admitted\b")
 NAME = re.compile(r".* is not in scope:")
+# What a file of definitions or proofs declares, the words of a declaration, and the statement that worked examples hold.
+DECLARATION = re.compile(r"^(?:  )?(?:(?:pub|abbrev|unfoldable) )*(?:(?:record|data) (\S+)|([^\s:]+) :).*", re.M)
+WORD = re.compile(r"[^\s(){}\[\],;.]+")
+EXAMPLES = re.compile(r"(?:pub )?\S+ : Hold \S+$", re.M)
 # What a proof is put together from: a loop's invariant and measure, and the whole.
 PARTS = re.compile(r"Inv-|μ-|\S+-spec$")
 SHAPE = re.compile(r"record `\S+`\s+has no field\b|`\S+`: module `\S+`\s+has no\b|expected type `tie\.Need-")
@@ -46,6 +54,9 @@ class Change(NamedTuple):
     file: str
     old: str
     new: str
+
+    def is_of_rules(self):
+        return self.file.startswith("specs/")
 
 
 class Wrong(NamedTuple):
@@ -57,6 +68,9 @@ class Wrong(NamedTuple):
 
     def __str__(self):
         return f"{self.crate}/{self.label}" + (f" (edit {self.edit})" if self.edit != self.label else "")
+
+    def is_rule(self):
+        return all(change.is_of_rules() for change in self.changes)
 
 
 class Holder(NamedTuple):
@@ -74,6 +88,9 @@ class Refusal(NamedTuple):
     where: str
     what: str
     said: str
+
+    def is_at(self, where, what):
+        return self.where == where and what in ("", self.what)
 
     def is_own(self):
         return not PASSED_ON.match(self.said)
@@ -121,7 +138,7 @@ def holder(crate, change):
     source = text_of(ROOT / "crates" / crate / change.file)
     at = source.find(change.old)
     item = item_at(source, at)
-    if not change.file.startswith("src/") or item is None:
+    if change.is_of_rules() or item is None:
         return Holder(0, "", "", False)
     body = BODY.search(source, item.start())
     return Holder(item.start(), item[1], item[2], item[1] == "fn" and body.start() < at < body.end())
@@ -133,20 +150,90 @@ def place(wrong):
     return where or holder(wrong.crate, wrong.changes[-1]).name, what
 
 
-def check_text(edit):
-    """What is amiss with an edit as it is written."""
-    changed = {}
+def declarations(text):
+    """What a file of definitions or proofs declares: each name with its text, without remarks."""
+    text = re.sub(r"^ *--.*\n", "", text, flags=re.M)
+    starts = list(DECLARATION.finditer(text))
+    found = {}
+    for m, end in zip(starts, [m.start() for m in starts[1:]] + [len(text)]):
+        found[m[1] or m[2]] = found.get(m[1] or m[2], "") + text[m.start() : end]
+    return found
+
+
+@cache
+def words_of(crate):
+    """The words of each of a crate's definitions, by name; those of one name in several files together."""
+    found = {}
+    for path in sorted((ROOT / "crates" / crate / "specs").glob("*.antt")):
+        for name, text in declarations(text_of(path)).items():
+            found.setdefault(name, set()).update(WORD.findall(text))
+    return found
+
+
+def theorem(wrong):
+    """The text of the theorem that has to refuse a wrong rule."""
+    where, what = place(wrong)
+    return declarations(text_of(ROOT / "crates" / wrong.crate / "proofs" / f"{where}.antt")).get(what, "")
+
+
+def reached(wrong):
+    """The definitions that this theorem can depend on: by name, and every operator, whose name doesn't stand where it is used."""
+    words = words_of(wrong.crate)
+    found, new = set(), set(WORD.findall(theorem(wrong))) | {name for name in words if "_" in name}
+    while new:
+        name = new.pop()
+        if name in words and name not in found:
+            found.add(name)
+            new |= words[name]
+    return found
+
+
+def changed(wrong):
+    """The definitions that a wrong rule changes."""
+    found, texts = set(), {}
+    for file, old, new in wrong.changes:
+        path = ROOT / "crates" / wrong.crate / file
+        texts[path] = texts.get(path, text_of(path)).replace(old, new, 1)
+    for path, text in texts.items():
+        before, after = declarations(text_of(path)), declarations(text)
+        found |= {name for name in before | after if before.get(name) != after.get(name)}
+    return found
+
+
+def check_rules(edit):
+    """What is amiss with the wrong rules of an edit."""
+    for wrong in edit:
+        if not changed(wrong) & reached(wrong):
+            yield f"{wrong}: {wrong.refused} doesn't depend on what it changes"
+        if len(edit) > 1 and not EXAMPLES.match(theorem(wrong)):
+            yield f"{wrong}: {wrong.refused} is no list of worked examples, so it needs an edit of its own"
+        for other in edit:
+            if other is not wrong and (both := changed(other) & reached(wrong)):
+                yield f"{wrong}: {wrong.refused} can depend on {', '.join(sorted(both))}, which {other.label} changes"
+
+
+def check_programs(edit):
+    """What is amiss with wrong programs that share an edit."""
+    held = {}
     for wrong in edit:
         holders = {holder(wrong.crate, change) for change in wrong.changes}
         last = holder(wrong.crate, wrong.changes[-1])
-        if not wrong.refused and last.kind != "fn":
+        if holders != {last} or not last.in_body or wrong.refused:
+            yield f"{wrong}: it doesn't change the body of one function alone, so it needs an edit of its own"
+        if last.name in held:
+            yield f"{wrong}: {held[last.name]} changes {last.name} too"
+        held[last.name] = wrong.label
+
+
+def check_text(edit):
+    """What is amiss with an edit as it is written."""
+    for wrong in edit:
+        if not wrong.refused and holder(wrong.crate, wrong.changes[-1]).kind != "fn":
             yield f"{wrong}: no function holds its text, so it has to say where it is refused"
-        if len(edit) > 1:
-            if holders != {last} or not last.in_body or wrong.refused:
-                yield f"{wrong}: it doesn't change the body of one function alone, so it needs an edit of its own"
-            if last.name in changed:
-                yield f"{wrong}: {changed[last.name]} changes {last.name} too"
-            changed[last.name] = wrong.label
+    if all(wrong.is_rule() and place(wrong)[1] for wrong in edit):
+        yield from check_rules(edit)
+    elif len(edit) > 1:
+        yield from check_programs(edit)
 
 
 def check_counts(edits):
@@ -176,13 +263,12 @@ def check_log(edit, said):
     """What the log of an edit should say and doesn't, and the other way round."""
     name, own = f"{edit[0].crate}/{edit[0].edit}", [r for r in said if r.is_own()]
     yield from (f"{name}: a name is missing: {r.said}" for r in own if NAME.match(r.said))
-    if len(edit) > 1:
+    if len(edit) > 1 and not edit[0].is_rule():
         others = {r.where for r in own} - {place(wrong)[0] for wrong in edit}
         yield from (f"{name}: {other} is refused, and no wrong program changes it" for other in sorted(others))
     for wrong in edit:
-        where, what = place(wrong)
-        if not any(r.where == where and what in ("", r.what) for r in own if r.is_fact()):
-            yield f"{wrong}: no fact of {where} {what} is refused"
+        if not any(r.is_at(*place(wrong)) for r in own if r.is_fact()):
+            yield f"{wrong}: no fact of {' '.join(place(wrong))} is refused"
 
 
 def main(words):
@@ -206,7 +292,7 @@ def main(words):
     if self_test and not faults:
         for edit, refused in zip(edits, said):
             for wrong in edit:
-                left = [r for r in refused if r.where != place(wrong)[0]]
+                left = [r for r in refused if not r.is_at(*place(wrong))]
                 faults += [f"{wrong}: let pass, and not seen"] * (not any(str(wrong) in fault for fault in check_log(edit, left)))
         told = f"{count} wrong programs and rules let pass one by one, all seen"
     print("\n".join(faults) or told, file=sys.stderr if faults else sys.stdout)

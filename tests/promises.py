@@ -86,7 +86,6 @@ SPAN = re.compile(r"`([^`\n]*)`")
 JOIN = re.compile(r"(?: \([^()`|]*\))?(?:[,:]|,? and)\s+")
 NUMBER = re.compile(r"(?<!\w)\d+(?:,\d{3})*")
 UNQUOTED = re.compile(r"\w+_\w+|\w+::\w+|\w+\.(?:antt|rt|rs|py|md|edit|sh|txt)\b|\w+/\w+")
-DECLARATION = re.compile(r"^(?:  )?(?:(?:pub|abbrev|unfoldable) )*(?:(?:record|data) (\S+)|([^\s:]+) :).*", re.M)
 FUNCTION = re.compile(r'^(?:pub )?(extern "C" )?fn (\w+)\(([^()]*)\)[^\n{]*(?:\{\n|\n((?:    .*\n)*)\{\n)', re.M)
 CLAUSE = re.compile(r"^    (requires|ensures) (.*?)(?=^    (?:requires|ensures) |\Z)", re.M | re.S)
 ROW = re.compile(r"^\|(?!---)(.*)\|$", re.M)
@@ -135,7 +134,7 @@ class Tree:
     def declared(self, path):
         """The names that a file of definitions or proofs declares, each with its line."""
         if path not in self.names:
-            self.names[path] = {m[1] or m[2]: m[0] for m in DECLARATION.finditer(self.text(path))}
+            self.names[path] = {m[1] or m[2]: m[0] for m in edits.DECLARATION.finditer(self.text(path))}
         return self.names[path]
 
     @cached_property
@@ -156,7 +155,7 @@ class Tree:
         found = {crate: {} for crate in self.crates}
         for wrong in (wrong for edit in edits.read_edits() for wrong in edit):
             last = wrong.changes[-1]
-            if last.file.startswith("specs/"):
+            if last.is_of_rules():
                 holder = (0, f"definitions in `{last.file}`")
             else:
                 item = edits.holder(wrong.crate, last)
@@ -179,8 +178,8 @@ class Tree:
     @cached_property
     def demands(self):
         """For each statement of the demands the number of its demand."""
-        parts = re.split(r"^-- ---- demand (\d+).*$", self.text("crates/rules/specs/Demands.antt"), flags=re.M)
-        return {m[1] or m[2]: n for n, part in zip(parts[1::2], parts[2::2]) for m in DECLARATION.finditer(part)}
+        parts = re.split(r"^-- ---- (?:demand (\d+))?.*$", self.text("crates/rules/specs/Demands.antt"), flags=re.M)
+        return {m[1] or m[2]: n for n, part in zip(parts[1::2], parts[2::2]) if n for m in edits.DECLARATION.finditer(part)}
 
     @cached_property
     def counts(self):

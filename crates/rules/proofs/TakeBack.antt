@@ -28,6 +28,7 @@ use Rattle.rules.proofs.Sound.{bind-both, Head, head-used, head-room, L
 use Rattle.rules.proofs.Write.{written, Wrote, wrote, place-below, text-kept, kind-kept, links-kept, places-kept, link-kept}
 use Rattle.rules.proofs.Append.{Appending, append-says, linkPlace, place-zero, room, writing, named-after, well-after}
 use Rattle.rules.proofs.TakeBackSteps.{take-back-once}
+use Rattle.rules.proofs.Unlinked.{Where, outside, inside, side-of, zero-bytes}
 use Rattle.rules.proofs.ReadBack.{rep-zero, fresh-well, start-is}
 
 abbrev zeros : List ℕ
@@ -163,27 +164,6 @@ takes-back-soundly archive used s u more =
 
 -- ---- an append is undone
 
--- four bytes that give zero are zero
-zero-bytes : (a : List ℕ) (q j : ℕ) → linkAt a q ≡ 0 → j < 4 → byteAt a (q + j) ≡ 0
-unfolding linkAt
-zero-bytes a q zero e h = let i : q + 0 ≡ q = omega arith in ap (byteAt a) i ∙ omega arith
-zero-bytes a q (suc zero) e h = omega arith
-zero-bytes a q (suc (suc zero)) e h = omega arith
-zero-bytes a q (suc (suc (suc zero))) e h = omega arith
-zero-bytes a q (suc (suc (suc (suc j)))) e h = absurd (omega arith)
-
--- a byte is outside a part, or one of it
-locate : (from many i : ℕ) → ((i < from) ⊎ (from + many ≤ i)) ⊎ ((j : ℕ) × (j < many) × (i ≡ from + j))
-locate from many i = go (ltb i from) refl (ltb i (from + many)) refl
-  where
-    go : (t : Bool) → ltb i from ≡ t → (u : Bool) → ltb i (from + many) ≡ u → ((i < from) ⊎ (from + many ≤ i)) ⊎ ((j : ℕ) × (j < many) × (i ≡ from + j))
-    go true e u f = inl (inl (ltb-true i from e))
-    go false e false f = inl (inr (ltb-false i (from + many) f))
-    go false e true f =
-        let a = ltb-false i from e in
-        let b = ltb-true i (from + many) f in
-        inr (i - from, omega arith, omega arith)
-
 module _ (archive : List ℕ) (owner : ℕ) (new after : List ℕ) (a : Appending archive owner new after) (well : Well archive (a .used)) where
   abbrev place : ℕ
   place = linkPlace archive owner new after a
@@ -218,20 +198,16 @@ module _ (archive : List ℕ) (owner : ℕ) (new after : List ℕ) (a : Appendin
         wrote after (a .used) place zeros 0 (a .used) refl stands-after (rw (wrote-new .long) (r .0)) (omega arith) (omega arith)
 
     same-byte : (i : ℕ) → byteAt back i ≡ byteAt archive i
-    same-byte i = go (locate 4 4 i) (locate place 4 i) (locate (32 * a .used) 32 i)
+    same-byte i = go (side-of 4 4 i) (side-of place 4 i) (side-of (32 * a .used) 32 i)
       where
-        go : ((i < 4) ⊎ (4 + 4 ≤ i)) ⊎ ((j : ℕ) × (j < 4) × (i ≡ 4 + j))
-            → ((i < place) ⊎ (place + 4 ≤ i)) ⊎ ((j : ℕ) × (j < 4) × (i ≡ place + j))
-            → ((i < 32 * a .used) ⊎ (32 * a .used + 32 ≤ i)) ⊎ ((j : ℕ) × (j < 32) × (i ≡ 32 * a .used + j)) → byteAt back i ≡ byteAt archive i
-        go (inr w) p r = rw (w .2) (wrote-back-new .count-bytes (w .0) (w .1) ∙ sym (count-bytes (w .0) (w .1)))
-        go (inl c) (inr w) r =
-            rw (w .2)
-            (zero-bytes back place (w .0) (wrote-back-new .named) (w .1)
-            ∙ sym (zero-bytes archive place (w .0) (place-zero archive owner new after a) (w .1)))
-        go (inl c) (inl p) (inr w) =
-            rw (w .2)
-            (sym (byte-of back (a .used) (w .0) (w .1)) ∙ ap (λ (r : List ℕ). byteAt r (w .0)) (wrote-back-new .filed ∙ sym empty) ∙ byte-of archive (a .used) (w .0) (w .1))
-        go (inl c) (inl p) (inl r) = wrote-back-new .bytes i c p r ∙ wrote-new .bytes i c p r
+        go : Where 4 4 i → Where place 4 i → Where (32 * a .used) 32 i → byteAt back i ≡ byteAt archive i
+        go (inside k h e) p r = rw (← e) (wrote-back-new .count-bytes k h ∙ sym (count-bytes k h))
+        go (outside c) (inside k h e) r =
+            rw (← e) (zero-bytes back place k (wrote-back-new .named) h ∙ sym (zero-bytes archive place k (place-zero archive owner new after a) h))
+        go (outside c) (outside p) (inside k h e) =
+            rw (← e)
+            (sym (byte-of back (a .used) k h) ∙ ap (λ (r : List ℕ). byteAt r k) (wrote-back-new .filed ∙ sym empty) ∙ byte-of archive (a .used) k h)
+        go (outside c) (outside p) (outside r) = wrote-back-new .bytes i c p r ∙ wrote-new .bytes i c p r
 
     pub takes-new-back : takeBack after ≡ given archive
     takes-new-back =

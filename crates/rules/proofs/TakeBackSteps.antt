@@ -15,9 +15,9 @@ use Rattle.rules.proofs.Lists.{of-keep, apart-within}
 use Rattle.rules.proofs.Places.{places-apart}
 
 -- the one link lies in a used record
-pub only-within : (archive : List ℕ) (used n place : ℕ) → onlyPlace (namers archive used n) ≡ given place → place + 4 ≤ 32 * used
+pub only-in-used : (archive : List ℕ) (used n place : ℕ) → onlyPlace (namers archive used n) ≡ given place → place + 4 ≤ 32 * used
 unfolding namers
-only-within archive used n place e = go (namers archive used n) refl e
+only-in-used archive used n place e = go (namers archive used n) refl e
   where
     inside : (p : ℕ) → namers archive used n ≡ p ∷ [] → List·Memᴰ p (linkPlaces archive used)
     inside p f = of-keep (λ q. eqb (linkAt archive q) n) (linkPlaces archive used) p (subst (λ (l : List ℕ). List·Memᴰ p l) (sym f) (List·Memᴰ·head refl)) .0

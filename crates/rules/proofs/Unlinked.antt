@@ -18,19 +18,18 @@ use Rattle.rules.proofs.Bytes.{put-length, put-below, put-in, put-above
 abbrev pub zeros : List ℕ
 zeros = 0 ∷ 0 ∷ 0 ∷ 0 ∷ []
 
--- a byte outside a link, or one of its four
-pub data Where (at i : ℕ) : Type 0 where
-  below : i < at → Where at i
-  inside : (k : ℕ) → k < 4 → at + k ≡ i → Where at i
-  above : at + 4 ≤ i → Where at i
+-- a byte outside so many from a place on, or one of them
+pub data Where (at many i : ℕ) : Type 0 where
+  outside : (i < at) ⊎ (at + many ≤ i) → Where at many i
+  inside : (k : ℕ) → k < many → at + k ≡ i → Where at many i
 
-pub side-of : (at i : ℕ) → Where at i
-side-of at i = go (ltb i at) refl (ltb i (at + 4)) refl
+pub side-of : (at many i : ℕ) → Where at many i
+side-of at many i = go (ltb i at) refl (ltb i (at + many)) refl
   where
-    go : (t : Bool) → ltb i at ≡ t → (u : Bool) → ltb i (at + 4) ≡ u → Where at i
-    go true e u f = below (ltb-true i at e)
-    go false e true f = let a = ltb-false i at e in let b = ltb-true i (at + 4) f in inside (i - at) (omega arith) (omega arith)
-    go false e false f = above (ltb-false i (at + 4) f)
+    go : (t : Bool) → ltb i at ≡ t → (u : Bool) → ltb i (at + many) ≡ u → Where at many i
+    go true e u f = outside (inl (ltb-true i at e))
+    go false e true f = let a = ltb-false i at e in let b = ltb-true i (at + many) f in inside (i - at) (omega arith) (omega arith)
+    go false e false f = outside (inr (ltb-false i (at + many) f))
 
 -- outside every link of a list
 abbrev pub Outside : List Link → ℕ → Type 0
@@ -42,7 +41,7 @@ cleared-same [] r s e fit f = ext-getD 0 r s e (λ i h. f i h (λ l m. absurd (L
 cleared-same (x ∷ ls) r s e fit f =
     cleared-same ls (put r (x .at) zeros) (put s (x .at) zeros) (long r here ∙ e ∙ sym (long s there))
     (λ l m. rw (long r here) (fit l (List·Memᴰ·tail m)))
-    (λ i h o. at i (rw (long r here) at h) o (side-of (x .at) i))
+    (λ i h o. at i (rw (long r here) at h) o (side-of (x .at) 4 i))
   where
     here : x .at + 4 ≤ length r
     here = fit x (List·Memᴰ·head refl)
@@ -60,9 +59,9 @@ cleared-same (x ∷ ls) r s e fit f =
         go (inl q) = subst (λ (y : Link). (i < y .at) ⊎ (y .at + 4 ≤ i)) (sym q) p
         go (inr m) = o l m
 
-    at : (i : ℕ) → i < length r → Outside ls i → Where (x .at) i → byteAt (put r (x .at) zeros) i ≡ byteAt (put s (x .at) zeros) i
-    at i h o (below b) = put-below r (x .at) zeros here i b ∙ f i h (both-out i (inl b) o) ∙ sym (put-below s (x .at) zeros there i b)
-    at i h o (above b) = put-above r (x .at) zeros here i b ∙ f i h (both-out i (inr b) o) ∙ sym (put-above s (x .at) zeros there i b)
+    at : (i : ℕ) → i < length r → Outside ls i → Where (x .at) 4 i → byteAt (put r (x .at) zeros) i ≡ byteAt (put s (x .at) zeros) i
+    at i h o (outside (inl b)) = put-below r (x .at) zeros here i b ∙ f i h (both-out i (inl b) o) ∙ sym (put-below s (x .at) zeros there i b)
+    at i h o (outside (inr b)) = put-above r (x .at) zeros here i b ∙ f i h (both-out i (inr b) o) ∙ sym (put-above s (x .at) zeros there i b)
     at i h o (inside k b c) =
         ap (byteAt (put r (x .at) zeros)) (sym c) ∙ put-in r (x .at) zeros here k b ∙ sym (put-in s (x .at) zeros there k b) ∙ ap (byteAt (put s (x .at) zeros)) c
 
@@ -76,7 +75,7 @@ zero-bytes r at (suc (suc (suc zero))) e h = omega arith
 zero-bytes r at (suc (suc (suc (suc k)))) e h = absurd (omega arith)
 
 pub put-zeros : (r : List ℕ) (at : ℕ) → linkAt r at ≡ 0 → at + 4 ≤ length r → put r at zeros ≡ r
-put-zeros r at e h = ext-getD 0 (put r at zeros) r (put-length r at zeros h) (λ i k. by i (side-of at i))
+put-zeros r at e h = ext-getD 0 (put r at zeros) r (put-length r at zeros h) (λ i k. by i (side-of at 4 i))
   where
     zero-at : (k : ℕ) → k < 4 → byteAt zeros k ≡ 0
     zero-at zero h = refl
@@ -85,9 +84,9 @@ put-zeros r at e h = ext-getD 0 (put r at zeros) r (put-length r at zeros h) (λ
     zero-at (suc (suc (suc zero))) h = refl
     zero-at (suc (suc (suc (suc k)))) h = absurd (omega arith)
 
-    by : (i : ℕ) → Where at i → byteAt (put r at zeros) i ≡ byteAt r i
-    by i (below b) = put-below r at zeros h i b
-    by i (above b) = put-above r at zeros h i b
+    by : (i : ℕ) → Where at 4 i → byteAt (put r at zeros) i ≡ byteAt r i
+    by i (outside (inl b)) = put-below r at zeros h i b
+    by i (outside (inr b)) = put-above r at zeros h i b
     by i (inside k b c) =
         ap (byteAt (put r at zeros)) (sym c) ∙ put-in r at zeros h k b ∙ zero-at k b ∙ sym (zero-bytes r at k e b) ∙ ap (byteAt r) c
 

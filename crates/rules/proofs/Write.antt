@@ -1,4 +1,4 @@
--- What append and taking back write: a record, a link to it below it and the count, and nothing else.
+-- What append and taking back write: a record, the link to it in an earlier record, which becomes its number or zero, and U; nothing else.
 use mathlib.Core.Path.{_≡_, refl, sym, _∙_, ap}
 use mathlib.Core.Bool.{Bool, true, false, cond}
 use mathlib.Core.List.{List, List·Memᴰ, Memᴰ·cast}
@@ -16,8 +16,15 @@ use Rattle.rules.proofs.Bytes.{byte-of, record-length, put-length, put-
 use Rattle.rules.proofs.Lists.{apart-two, apart-within}
 use Rattle.rules.proofs.Places.{SameStart, owned-same, links-same, places-apart, at-within, stands-in, in-stands, place-low, Stands}
 
+-- the archive with a record, the link at a place and U written
 abbrev pub written : List ℕ → ℕ → ℕ → List ℕ → ℕ → ℕ → List ℕ
 written before number place new link count = put (put (put before (32 * number) new) place (word link)) 4 (word count)
+
+-- three writes, one after another, leave that
+pub is-written : (before : List ℕ) (number place : ℕ) (new : List ℕ) (link count : ℕ) {one two after : List ℕ} → one ≡ put before (32 * number) new
+    → two ≡ put one place (word link) → after ≡ put two 4 (word count) → after ≡ written before number place new link count
+is-written before number place new link count first second third =
+    third ∙ ap (λ (l : List ℕ). put l 4 (word count)) (second ∙ ap (λ (l : List ℕ). put l place (word link)) first)
 
 -- the later archive
 pub record Wrote (before : List ℕ) (number place : ℕ) (new : List ℕ) (link count : ℕ) (after : List ℕ) : Type 0 where

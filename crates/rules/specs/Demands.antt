@@ -64,31 +64,6 @@ Files =
     (archive : List ℕ) (used owner offset : ℕ) (new : List ℕ) → Sound archive → usedOf archive ≡ given used → newAllowed new ≡ true
     → offsetFor archive used owner (kindOf new) ≡ given offset → used < length archive / 32 → (later : List ℕ) × (append archive owner new ≡ given later)
 
--- ---- taking back (02, 2)
-
--- each of these numbers fits a byte
-abbrev pub AreBytes : List ℕ → Type 0
-AreBytes archive = (i : ℕ) → byteAt archive i < 2 ^ 8
-
--- an append that isn't refused, on a sound archive whose record U is all zero, followed by taking back, gives the earlier archive, byte
--- for byte
-abbrev pub TakesAppendBack : Type 0
-TakesAppendBack =
-    (archive later : List ℕ) (used owner : ℕ) (new : List ℕ) → AreBytes archive → Sound archive → usedOf archive ≡ given used
-    → recordAt archive used ≡ replicate 32 0 → append archive owner new ≡ given later → takeBack later ≡ given archive
-
--- a sound archive with more than its head is never refused; it has one record less afterwards, and stays sound
-abbrev pub TakesBackSoundly : Type 0
-TakesBackSoundly =
-    (archive : List ℕ) (used : ℕ) → Sound archive → usedOf archive ≡ given used → 1 < used
-    → (later : List ℕ) × (takeBack archive ≡ given later) × (usedOf later ≡ given (used - 1)) × Sound later
-
--- filings into a fresh archive, none refused, and then some of them taken back, up to all: the archive of the others, byte for byte
-abbrev pub TakesFilingsBack : Type 0
-TakesFilingsBack =
-    (archive start end : List ℕ) (filings : List Filing) (times : ℕ) → fresh archive ≡ given start → fileAll filings start ≡ given end
-    → times ≤ length filings → takeBackTimes times end ≡ fileAll (take (length filings - times) filings) start
-
 -- ---- demand 3: the amounts against the exact fractions, and against an archive with raised readings
 
 -- whoever answers with the rule book's equations keeps the whole promise, the exact fractions included
@@ -142,3 +117,29 @@ pub record DeliveryDays : Type 0 where
       → length (workingDays holidays (nextMonth (dayOf quarter))) < 4 → day ≡ 0
   -- the month whose working days these are is the next one
   pub begins : (day : ℕ) → 1 ≤ day → dateOf (nextMonth day) ≡ nextFirst (dateOf day)
+
+-- ---- taking back (02, 2)
+
+-- each of these numbers fits a byte
+abbrev pub AreBytes : List ℕ → Type 0
+AreBytes archive = (i : ℕ) → byteAt archive i < 2 ^ 8
+
+-- an append that isn't refused, on a sound archive of bytes whose record U is all zero, followed by taking back, gives the earlier archive,
+-- byte for byte
+abbrev pub TakesAppendBack : Type 0
+TakesAppendBack =
+    (archive later : List ℕ) (used owner : ℕ) (new : List ℕ) → AreBytes archive → Sound archive → usedOf archive ≡ given used
+    → recordAt archive used ≡ replicate 32 0 → append archive owner new ≡ given later → takeBack later ≡ given archive
+
+-- a sound archive with more than its head is never refused; it has one used record less afterwards, and stays sound
+abbrev pub TakesBackSoundly : Type 0
+TakesBackSoundly =
+    (archive : List ℕ) (used : ℕ) → Sound archive → usedOf archive ≡ given used → 1 < used
+    → (later : List ℕ) × (takeBack archive ≡ given later) × (usedOf later ≡ given (used - 1)) × Sound later
+
+-- filings into a fresh archive, none refused, and then the last so many of them taken back, up to all: the archive of those before them, byte
+-- for byte
+abbrev pub TakesFilingsBack : Type 0
+TakesFilingsBack =
+    (archive start end : List ℕ) (filings : List Filing) (times : ℕ) → fresh archive ≡ given start → fileAll filings start ≡ given end
+    → times ≤ length filings → takeBackTimes times end ≡ fileAll (take (length filings - times) filings) start

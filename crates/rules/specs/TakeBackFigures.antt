@@ -22,7 +22,7 @@ taking archive = numberOf (takeBack archive) ∷ archiveAfter (takeBack archive)
 abbrev stays : List ℕ → List ℕ × List ℕ
 stays archive = (taking archive, 19 ∷ archive)
 
--- case a or what was made of it, without its last record, 6; the link that named that is to be zero already
+-- 0, and what is left of case a, or of an archive made of it in which no link names record 6: that record cleared, U = 6
 abbrev without : List ℕ → List ℕ
 without archive = 0 ∷ withWord (take 192 archive) 0 4 6 ++ unused 1
 
@@ -63,7 +63,9 @@ takings =
     ∷ (taking (withWord caseA 6 4 4), without unnamed)
     -- no links: bytes 8-15 of kinds 2, 4 and 5, bytes 16-19, the head's bytes 12-15; and the low bytes of a larger number
     ∷ (taking (withByte (withWord caseA 3 8 6) 3 0 2), without (withByte (withWord unnamed 3 8 6) 3 0 2))
+    ∷ (taking (withByte (withWord caseA 3 12 6) 3 0 2), without (withByte (withWord unnamed 3 12 6) 3 0 2))
     ∷ (taking (withWord (withWord caseA 3 8 6) 4 12 6), without (withWord (withWord unnamed 3 8 6) 4 12 6))
+    ∷ (taking (withWord (withWord caseA 3 12 6) 4 8 6), without (withWord (withWord unnamed 3 12 6) 4 8 6))
     ∷ (taking (withWord (withWord caseA 2 16 6) 0 12 6), without (withWord (withWord unnamed 2 16 6) 0 12 6))
     ∷ (taking (withWord caseA 1 4 65542), without (withWord unnamed 1 4 65542))
     ∷ []

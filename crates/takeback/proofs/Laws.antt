@@ -9,7 +9,7 @@ use Rattle.rules.specs.Links.{namers}
 use Rattle.rules.specs.TakeBack.{onlyPlace, takenBack}
 use Rattle.rules.specs.Promises.{TakesBack}
 use Rattle.rules.proofs.AppendSteps.{used-within}
-use Rattle.rules.proofs.TakeBackSteps.{only-within, take-back-not-once, take-back-once}
+use Rattle.rules.proofs.TakeBackSteps.{only-in-used, take-back-not-once, take-back-once}
 use Rattle.takeback.specs.declared.Only.{Only}
 use Rattle.takeback.specs.declared.Only.the-variants as only
 use Rattle.takeback.specs.declared.Last.{Last}
@@ -27,7 +27,7 @@ module _ (archive : List ℕ) (used : ℕ) (u : usedOf archive ≡ given used) (
   once {place} e =
       let o : onlyPlace (namers archive used (used - 1)) ≡ given place = sym says ∙ ap onlyOutcome e in
       let w = used-within archive used u in
-      let p = only-within archive used (used - 1) place o in
+      let p = only-in-used archive used (used - 1) place o in
       (take-back-once archive used u more place o, record { some = more; few = omega arith; fits = omega arith; link = omega arith })
 
 -- ---- the call

@@ -162,7 +162,7 @@ module _ {archive : List ℕ} {named n met : ℕ} (m : Met archive named n met) 
       rest : List ℕ
       rest = namers-front archive (n + 1) (used - (n + 1)) named .0
 
-      all : namers archive used named ≡ namers archive (n + 1) named ++ namers-front archive (n + 1) (used - (n + 1)) named .0
+      all : namers archive used named ≡ namers archive (n + 1) named ++ rest
       all =
           let e : used ≡ n + 1 + (used - (n + 1)) = omega arith in
           ap (λ (k : ℕ). namers archive k named) e ∙ namers-front archive (n + 1) (used - (n + 1)) named .1

@@ -44,7 +44,7 @@ abbrev pub onlyOutcome : Only → Outcome ℕ
 onlyOutcome (only.At place) = given place
 onlyOutcome (only.Refused n) = refused n
 
--- record U - 1 lies in the archive behind the head, and so does the link at a place
+-- record U - 1 isn't the head and lies in the archive, and so does the link at a place
 pub record HasLast (archive : List ℕ) (used place : ℕ) : Type 0 where
   pub some : 1 < used
   pub few : used ≤ 65535

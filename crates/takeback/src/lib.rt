@@ -1,7 +1,7 @@
 // Taking the last record back (document 02, 2): one pass over the links of the used records, then three writes.
 ghost use mathlib.Core.Path.{_≡_};
 ghost use mathlib.Core.List.{_++_};
-ghost use Prim.Native.Nat.{_+_, _*_, _≤_, _<_};
+ghost use Prim.Native.Nat.{_+_, _*_, _≤_};
 ghost use lib.ListN.{length};
 ghost use Rattle.rules.specs.Archive.{recordAt};
 ghost use Rattle.rules.specs.Links.{namers};
@@ -14,7 +14,7 @@ use rules::refusal;
 
 // ---- the links that name a record, by their value alone
 
-// None or one, by its place in the archive, 0 for none, since no link stands there; or more.
+// The links met that name it: none or one, by its place in the archive, 0 for none, since no link stands there; or more.
 enum Naming {
     Place(u64),
     Several,
@@ -65,7 +65,7 @@ enum Only {
     Refused(u64),
 }
 
-// Over the links of all used records; the second one decides.
+// Over the links of all used records; the second that names it ends the pass.
 fn only_link_to(archive: &[u8], used: u64, named: u64) -> Only
     requires { ⌜ 32 * used ≤ length (now archive) ⌝ }
     ensures { λ r. ⌜ onlyOutcome r ≡ onlyPlace (namers (now (archive .entry)) used named) ⌝ }

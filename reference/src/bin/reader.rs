@@ -1456,7 +1456,7 @@ mod self_test {
         tests.same("R 13 dated, program", (printed(&bytes), expected.len()), (expected, 617));
     }
 
-    /// The rows of F 17: all over `a`, with a few more from its text; then `month` and `shared`.
+    /// The rows of F 17: all over `a`; then `month` and `shared`.
     fn section_17(tests: &mut Tests) {
         // Bytes added at the end, changes; the record taken back, and record and place of the link that named it.
         type Row<'a> = (&'a [u8], &'a [Set], usize, (usize, usize));
@@ -1498,7 +1498,7 @@ mod self_test {
             (&[], &[Number(5, 4, 0), Number(6, 4, 6)], 6, (6, 4)),
             (&[], &[Number(5, 4, 0), Byte(6, 0, 1), Number(6, 8, 6)], 6, (6, 8)),
             (&[], &[Number(5, 4, 0), Byte(6, 0, 1), Number(6, 12, 6)], 6, (6, 12)),
-            // Not in the table: next links of kinds 1, 4 and 2; bytes 12-15 of kinds 4 and 2; a plant's bytes 16-19.
+            // Next links of kinds 1, 4 and 2; bytes 12-15 of kinds 4 and 2; a plant's bytes 16-19.
             (&[], &[Number(5, 4, 0), Number(1, 4, 6)], 6, (1, 4)),
             (&[], &[Number(5, 4, 0), Number(3, 4, 6)], 6, (3, 4)),
             (&[], &[Number(5, 4, 0), Byte(3, 0, 2), Number(3, 4, 6)], 6, (3, 4)),

@@ -1,10 +1,7 @@
 -- `filing::file` meets its contract.
-use mathlib.Core.List.{List}
-use mathlib.Core.Path.{_∙_, ap}
-use Prim.Native.Nat.{ℕ, _+_}
 use borrow.Author.Needs.{needs}
-use Rattle.rules.specs.Encoding.{word, put}
 use Rattle.rules.specs.Filing.{appendAfter}
+use Rattle.rules.proofs.Write.{is-written}
 use Rattle.filing.proofs.file.Statement.{statement}
 use Rattle.filing.proofs.file.Tie as tie
 
@@ -29,12 +26,10 @@ same-length c = search needs
 returns : tie.Need-returns
 unfolding appendAfter
 returns c =
-    let at-put-word2 = c .before .before in
-    let two = at-put-word2 .before .before .before .before in
-    let one = two .before .before .before .before in
-    let a = one .before .before .before .before .args in
-    at-put-word2 .put-word2 .ensures
-    ∙ ap (λ (l : List ℕ). put l 4 (word (a .used + 1))) (two .put-word .ensures ∙ ap (λ (l : List ℕ). put l (a .last) (word (a .used))) (one .put-bytes .ensures))
+    let third = c .before .before in
+    let second = third .before .before .before .before in
+    let first = second .before .before .before .before in
+    is-written _ _ _ _ _ _ (first .put-bytes .ensures) (second .put-word .ensures) (third .put-word2 .ensures)
 
 pub file-spec : {M : Type 1} → statement M
 file-spec =

@@ -1,10 +1,7 @@
 -- `takeback::clear_last` meets its contract.
-use mathlib.Core.List.{List}
-use mathlib.Core.Path.{_∙_, ap}
-use Prim.Native.Nat.{ℕ, _-_}
 use borrow.Author.Needs.{needs}
-use Rattle.rules.specs.Encoding.{word, put}
 use Rattle.rules.specs.TakeBack.{takenBack}
+use Rattle.rules.proofs.Write.{is-written}
 use Rattle.takeback.proofs.clear_last.Statement.{statement}
 use Rattle.takeback.proofs.clear_last.Tie as tie
 
@@ -32,12 +29,10 @@ same-length c = search needs
 returns : tie.Need-returns
 unfolding takenBack
 returns c =
-    let at-put-word2 = c .before .before in
-    let two = at-put-word2 .before .before .before .before in
-    let one = two .before .before .before .before in
-    let a = one .before .before .before .before .args in
-    at-put-word2 .put-word2 .ensures
-    ∙ ap (λ (l : List ℕ). put l 4 (word (a .used - 1))) (two .put-word .ensures ∙ ap (λ (l : List ℕ). put l (a .place) (word 0)) (one .put-bytes .ensures))
+    let third = c .before .before in
+    let second = third .before .before .before .before in
+    let first = second .before .before .before .before in
+    is-written _ _ _ _ _ _ (first .put-bytes .ensures) (second .put-word .ensures) (third .put-word2 .ensures)
 
 pub clear-last-spec : {M : Type 1} → statement M
 clear-last-spec =
