@@ -3,7 +3,8 @@
 
     edits.py                                the edits as they are written
     edits.py LOGS [CRATE ..]                and what the prover said of each, or of each in these crates, as rt leaves it in a folder
-    edits.py --self-test LOGS [CRATE ..]    what it said of each wrong program taken out of its log, which the check must see
+    edits.py --self-test LOGS [CRATE ..]    what it said of each wrong program taken out of its log, and wrong rules that the same theorem
+                                            refuses put in one edit, which the check must see
 
 An edit is a list of texts that become others, and rt has the prover refuse the crate with all of them. Most of the time goes into proving
 the rest of the crate again, so one edit may hold several wrong programs:
@@ -29,6 +30,7 @@ import re
 import sys
 from collections import Counter
 from functools import cache
+from itertools import combinations
 from pathlib import Path
 from typing import NamedTuple
 
@@ -212,6 +214,12 @@ def check_rules(edit):
                 yield f"{wrong}: {wrong.refused} can depend on {', '.join(sorted(both))}, which {other.label} changes"
 
 
+def alike(edits):
+    """The wrong rules that the same theorem has to refuse, two by two: none of these can share an edit."""
+    rules = [wrong for edit in edits for wrong in edit if wrong.is_rule()]
+    return [(one, other) for one, other in combinations(rules, 2) if one.refused == other.refused]
+
+
 def check_programs(edit):
     """What is amiss with wrong programs that share an edit."""
     held = {}
@@ -294,7 +302,9 @@ def main(words):
             for wrong in edit:
                 left = [r for r in refused if not r.is_at(*place(wrong))]
                 faults += [f"{wrong}: let pass, and not seen"] * (not any(str(wrong) in fault for fault in check_log(edit, left)))
-        told = f"{count} wrong programs and rules let pass one by one, all seen"
+        pairs = alike(edits)
+        faults += [f"{one} and {other}: in one edit, and not seen" for one, other in pairs if not any(check_rules([one, other]))]
+        told = f"{count} wrong programs and rules let pass one by one, {len(pairs)} pairs of rules put in one edit, all seen"
     print("\n".join(faults) or told, file=sys.stderr if faults else sys.stdout)
     return int(bool(faults))
 
