@@ -3,6 +3,7 @@ ghost use mathlib.Core.Path.{_≡_};
 ghost use mathlib.Core.List.{[]};
 ghost use Rattle.rules.specs.Numbers.{orZero};
 ghost use Rattle.rules.specs.Terms.{quarterOf};
+ghost use Rattle.rules.specs.October.{boundingOf};
 ghost use Rattle.rules.specs.Reference as book;
 ghost use Rattle.rules.specs.Reference.{magnitude as magnitudeOf};
 ghost use Rattle.terms.specs.Meanings.{meaning};
@@ -14,6 +15,7 @@ use record::Power;
 use reference::Numerator;
 use reference::Reference;
 use reference::Timing;
+use rules::Bounding;
 use rules::Direction;
 use terms::Terms;
 use units::Watt;
@@ -41,7 +43,8 @@ pub enum Exact {
     OutOfRange,
 }
 
-// Of a measure's quarter, from its index along the chain and its own 32 bytes; d is D, which all quarters of a measure share.
+// Of a measure's quarter, from its index along the chain and its own 32 bytes; d is D, which all quarters of a measure share. Nothing bounds
+// T or L.
 pub fn exact_of(
     terms: Terms,
     index: u64,
@@ -52,6 +55,7 @@ pub fn exact_of(
 ) -> Exact
     requires { ⌜ Ready reference d (now powers) (now r) ⌝ }
     requires { ⌜ Timing.NoDate ≡ timingOf reference (meaning terms) ⌝ }
+    requires { ⌜ Bounding.Unbounded ≡ boundingOf (meaning terms) ⌝ }
     ensures { λ x. ⌜ ((ref : book.Reference) → Means reference (now (powers .entry)) ref
         → x ≡ quarterAnswer (meaning terms) ref (quarterOf (meaning terms) index (now (r .entry)))) ⌝ }
 {
@@ -69,6 +73,7 @@ pub fn exact_of(
 pub fn exact_by_date(terms: Terms, index: u64, clock: Clock, pn: Watt, d: u64, r: &[u8]) -> Exact
     requires { ⌜ Ready (Reference.ByFactor pn) d [] (now r) ⌝ }
     requires { ⌜ Shows (meaning terms) index clock ⌝ }
+    requires { ⌜ Bounding.Unbounded ≡ boundingOf (meaning terms) ⌝ }
     ensures { λ x. ⌜ x ≡ quarterAnswer (meaning terms) (book.byFactor (orZero (pn .0))) (quarterOf (meaning terms) index (now (r .entry))) ⌝ }
 {
     let Power::Of(l) = limitation::limit_of(terms, r) else {
@@ -81,4 +86,36 @@ pub fn exact_by_date(terms: Terms, index: u64, clock: Clock, pn: Watt, d: u64, r
         reference::numerator_by_date(pn, terms, index, clock, r),
         l,
     ))
+}
+
+// With the readings that bound T or L from October 2026 on (document 02, 3).
+pub fn exact_bounded(
+    terms: Terms,
+    index: u64,
+    bounding: Bounding,
+    reference: Reference,
+    d: u64,
+    powers: &[u32],
+    r: &[u8],
+) -> Exact
+    requires { ⌜ Ready reference d (now powers) (now r) ⌝ }
+    requires { ⌜ Timing.NoDate ≡ timingOf reference (meaning terms) ⌝ }
+    requires { ⌜ bounding ≡ boundingOf (meaning terms) ⌝ }
+    ensures { λ x. ⌜ ((ref : book.Reference) → Means reference (now (powers .entry)) ref
+        → x ≡ quarterAnswer (meaning terms) ref (quarterOf (meaning terms) index (now (r .entry)))) ⌝ }
+{
+    let Power::Of(l) = limitation::limit_of(terms, r) else {
+        return Exact::OutOfRange;
+    };
+    let Numerator::Of(t) = reference::numerator_of(reference, powers, terms, index, r) else {
+        return Exact::OutOfRange;
+    };
+    let Numerator::Of(lowest) = reference::bounded(bounding, d, t, r) else {
+        return Exact::OutOfRange;
+    };
+    let Power::Of(limit) = limitation::bounded(bounding, l, r) else {
+        return Exact::OutOfRange;
+    };
+    let direction = terms.direction;
+    Exact::Of(magnitude(direction, d, lowest, limit))
 }

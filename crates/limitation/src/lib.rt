@@ -2,10 +2,13 @@
 ghost use mathlib.Core.Path.{_≡_};
 ghost use lib.ListN.{length};
 ghost use Rattle.rules.specs.Archive.{fieldAt};
+ghost use Rattle.rules.specs.Terms.{readingAt, Quarter};
 ghost use Rattle.rules.specs.Reference.{limitation as limitationOf};
 ghost use Rattle.terms.specs.Meanings.{meaning};
-ghost use Rattle.limitation.specs.Limits.{LimitedTo};
+ghost use Rattle.limitation.specs.Limits.{LimitedTo, BoundedTo};
 use record::Power;
+use record::Reading;
+use rules::Bounding;
 use rules::Direction;
 use rules::Execution;
 use terms::Terms;
@@ -44,5 +47,22 @@ pub fn limit_of(terms: Terms, r: &[u8]) -> Power
         }
         Execution::Tolerated => Power::Of(measured),
         Execution::Fixed => Power::Of(measured),
+    }
+}
+
+// With the reading that bounds it from October 2026 on (document 02, 3): other Pauschal, positive.
+pub fn bounded(bounding: Bounding, l: Watt, r: &[u8]) -> Power
+    requires { ⌜ length (now r) ≡ 32 ⌝ }
+    ensures { λ p. ⌜ ((q : Quarter) → q .nonavailability ≡ readingAt (now (r .entry)) 24 → BoundedTo bounding (l .0) q p) ⌝ }
+{
+    match bounding {
+        Bounding::Unbounded => Power::Of(l),
+        Bounding::ReferenceByBoth => Power::Of(l),
+        Bounding::ReferenceByNonavailability => Power::Of(l),
+        Bounding::LimitationByNonavailability => match record::reading_at(r, 24) {
+            Reading::None => Power::Of(l),
+            Reading::Of(power) => Power::Of(units::smaller(l, power)),
+            Reading::OutOfRange => Power::OutOfRange,
+        },
     }
 }

@@ -8,11 +8,15 @@ use lib.ListN.{length, take, drop, getD, replicate}
 use lib.Seq.{take-length}
 use Rattle.rules.specs.Outcome.{Outcome, refused, given, _>>=_}
 use Rattle.rules.specs.Settle.{Place, Basis, placeOf, basisOf, quartersOf, Settlement, settlementOf, settled}
+use Rattle.rules.proofs.October.{factor-unbounded}
 use Rattle.rules.proofs.Bounds.{NominalLow, basis-basic}
 use Rattle.place.specs.declared.Place as code-place
 use Rattle.place.specs.Places.{meant, Lies}
-use Rattle.reference.specs.References.{Held}
+use Rattle.reference.specs.declared.Reference.{Reference}
+use Rattle.reference.specs.References.{Means, Held}
+use Rattle.reference.specs.Times.{FreeByDate}
 use Rattle.reference.proofs.References.{held-by}
+use Rattle.reference.proofs.Times.{dated-by-factor}
 use Rattle.terms.specs.declared.Terms.{Terms}
 use Rattle.basis.specs.declared.Basis as code
 use Rattle.basis.specs.declared.Based.{Based}
@@ -39,6 +43,7 @@ module _ (archive : List ℕ) (place : Place) (powers : List ℕ) (r : Based) (h
     pub is : basisOf archive place ≡ given book
     pub stands : Stands basis powers book
     pub held : Held (basis .reference) powers
+    pub free : FreeByDate (basis .reference) (place .terms)
     pub links-few : basis .links ≤ 131072
 
   standing : NominalLow (place .terms) → place .used ≤ 65535 → (basis : code.Basis) → r ≡ based.On basis → Standing basis
@@ -50,7 +55,16 @@ module _ (archive : List ℕ) (place : Place) (powers : List ℕ) (r : Based) (h
           let f : e .basis ≡ basis = cc (e .is) in
           let s = subst (λ (x : code.Basis). Stands x powers b) f (e .stands) in
           let l = basis-basic archive place low used .of b i in
-          record { book = b; is = i; stands = s; held = held-by (b .reference) (s .means) (l .bounded); links-few = omega (arith, l .links-few, s .links-are) }
+          record {
+            book = b;
+            is = i;
+            stands = s;
+            held = held-by (b .reference) (s .means) (l .bounded);
+            free = λ pn timed.
+                let dated = dated-by-factor (basis .reference) (place .terms) timed in
+                sym (factor-unbounded archive place b (subst (λ (x : Reference). Means x powers (b .reference)) (dated .0) (s .means) .is) i);
+            links-few = omega (arith, l .links-few, s .links-are);
+          }
 
   pub on-standing : (sheet : List ℕ) (x : Prepared) (basis : code.Basis) (s : Standing basis)
       → Prepares (quartersOf archive place (s .book) >>= λ quarters. given (settlementOf place (s .book) quarters)) sheet x

@@ -1,21 +1,23 @@
-// One walk over a measure's quarters (documents 01, 'Calls on the archive', and 02, 1): each is tested and counted, and its exact magnitude
+// One walk over a measure's quarters (documents 01, 'Calls on the archive', and 02, 1 and 3): each is tested and counted, and its exact magnitude
 // is written into a sheet.
 ghost use mathlib.Core.Path.{_≡_};
 ghost use mathlib.Core.Bool.{_&&_};
 ghost use mathlib.Core.List.{[]};
 ghost use Prim.Native.Nat.{_≤_};
 ghost use lib.Dec.{leb};
+ghost use Rattle.rules.specs.October.{boundingOf};
 ghost use Rattle.rules.specs.Settle.{datesAllowed};
 ghost use Rattle.terms.specs.Meanings.{meaning};
 ghost use Rattle.place.specs.Places.{Lies};
 ghost use Rattle.reference.specs.References.{Divided};
-ghost use Rattle.reference.specs.Times.{timingOf};
+ghost use Rattle.reference.specs.Times.{timingOf, FreeByDate};
 ghost use Rattle.quarters.specs.Walks.{isInRange, entered, answerAtEnd, Walks};
 use chains::Link;
 use exact::Exact;
 use place::Place;
 use reference::Reference;
 use reference::Timing;
+use rules::Bounding;
 use rules::kind;
 use rules::refusal;
 use terms::Terms;
@@ -77,7 +79,7 @@ fn answer_at_end(terms: Terms, count: usize, fine: bool) -> Walked
 // The chain is walked to its end, however long, before the tests there. A sheet of any length will do: a magnitude that has no place
 // there is tested and counted only.
 
-// Where T isn't found by the date.
+// Where T isn't found by the date, and nothing bounds it or L.
 fn walk_without_date(
     archive: &[u8],
     place: Place,
@@ -89,6 +91,7 @@ fn walk_without_date(
     requires { ⌜ Lies (now archive) place ⌝ }
     requires { ⌜ Divided reference d (now powers) ⌝ }
     requires { ⌜ Timing.NoDate ≡ timingOf reference (meaning (place .terms)) ⌝ }
+    requires { ⌜ Bounding.Unbounded ≡ boundingOf (meaning (place .terms)) ⌝ }
     ensures { λ r. ⌜ Walks (now (archive .entry)) place reference (now (powers .entry)) (now (sheet .exit)) r ⌝ }
 {
     let used = place.used;
@@ -119,6 +122,7 @@ fn walk_by_date(archive: &[u8], place: Place, pn: Watt, d: u64, sheet: &mut [u64
     requires { ⌜ Lies (now archive) place ⌝ }
     requires { ⌜ Divided (Reference.ByFactor pn) d [] ⌝ }
     requires { ⌜ 1 ≤ meaning (place .terms) .first ⌝ }
+    requires { ⌜ Bounding.Unbounded ≡ boundingOf (meaning (place .terms)) ⌝ }
     ensures { λ r. ⌜ Walks (now (archive .entry)) place (Reference.ByFactor pn) [] (now (sheet .exit)) r ⌝ }
 {
     let used = place.used;
@@ -147,7 +151,46 @@ fn walk_by_date(archive: &[u8], place: Place, pn: Watt, d: u64, sheet: &mut [u64
     answer_at_end(terms, count, fine)
 }
 
-// The quarters of a measure, with or without a clock; d is D.
+// Where readings of the quarters bound T or L, from October 2026 on (document 02, 3).
+fn walk_bounded(
+    archive: &[u8],
+    place: Place,
+    bounding: Bounding,
+    reference: Reference,
+    d: u64,
+    powers: &[u32],
+    sheet: &mut [u64],
+) -> Walked
+    requires { ⌜ Lies (now archive) place ⌝ }
+    requires { ⌜ Divided reference d (now powers) ⌝ }
+    requires { ⌜ Timing.NoDate ≡ timingOf reference (meaning (place .terms)) ⌝ }
+    requires { ⌜ bounding ≡ boundingOf (meaning (place .terms)) ⌝ }
+    ensures { λ r. ⌜ Walks (now (archive .entry)) place reference (now (powers .entry)) (now (sheet .exit)) r ⌝ }
+{
+    let used = place.used;
+    let terms = place.terms;
+    let mut last = place.measure;
+    let mut link = record::link_of(archive, last, 12);
+    let mut count: usize = 0;
+    let mut fine = true;
+    while link != 0 {
+        let answer = chains::follow(archive, used, kind::QUARTER, last, link);
+        let Link::At(n) = answer else {
+            return Walked::Refused(chains::refusal_of(answer, 0));
+        };
+        let i = n as usize;
+        let index = count as u64;
+        let r = &archive[32 * i..32 * i + 32];
+        let magnitude = exact::exact_bounded(terms, index, bounding, reference, d, powers, r);
+        fine = enter(sheet, count, magnitude) & fine;
+        count += 1;
+        last = n;
+        link = record::link_of(archive, n, 4);
+    }
+    answer_at_end(terms, count, fine)
+}
+
+// The quarters of a measure, with a clock, with bounds or with neither; d is D.
 pub fn walk(
     archive: &[u8],
     place: Place,
@@ -158,11 +201,18 @@ pub fn walk(
 ) -> Walked
     requires { ⌜ Lies (now archive) place ⌝ }
     requires { ⌜ Divided reference d (now powers) ⌝ }
+    requires { ⌜ FreeByDate reference (meaning (place .terms)) ⌝ }
     ensures { λ r. ⌜ Walks (now (archive .entry)) place reference (now (powers .entry)) (now (sheet .exit)) r ⌝ }
 {
     let terms = place.terms;
     match reference::timing_of(reference, terms) {
-        Timing::NoDate => walk_without_date(archive, place, reference, d, powers, sheet),
         Timing::ByDate(pn) => walk_by_date(archive, place, pn, d, sheet),
+        Timing::NoDate => {
+            let bounding = terms::bounding_of(terms);
+            let Bounding::Unbounded = bounding else {
+                return walk_bounded(archive, place, bounding, reference, d, powers, sheet);
+            };
+            walk_without_date(archive, place, reference, d, powers, sheet)
+        }
     }
 }

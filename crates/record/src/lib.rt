@@ -3,9 +3,10 @@ ghost use mathlib.Core.Path.{_≡_};
 ghost use Prim.Native.Nat.{_+_, _*_, _^_, _≤_, _<_};
 ghost use lib.ListN.{length};
 ghost use Rattle.rules.specs.Archive.{linkAt, fieldAt, recordAt, kindOf};
+ghost use Rattle.rules.specs.Terms.{readingAt};
 ghost use Rattle.rules.specs.Links.{isKind, linksOf, linksAt};
 ghost use Rattle.record.specs.Slots.{slotAnswer};
-ghost use Rattle.record.specs.Powers.{PowerOf};
+ghost use Rattle.record.specs.Powers.{PowerOf, ReadingOf};
 use rules::kind;
 use units::Watt;
 
@@ -51,6 +52,31 @@ pub fn power_at(r: &[u8], at: usize) -> Power
         return Power::OutOfRange;
     }
     Power::Of(power)
+}
+
+// A power that a quarter may be without (document 02, 3).
+pub enum Reading {
+    None,
+    Of(Watt),
+    OutOfRange,
+}
+
+// The number that means none.
+const NO_READING: u64 = 2147483647;
+
+pub fn reading_at(r: &[u8], at: usize) -> Reading
+    requires { ⌜ at + 4 ≤ length (now r) ⌝ }
+    ensures { λ x. ⌜ ReadingOf (readingAt (now (r .entry)) at) x ⌝ }
+{
+    let word = link_at(r, at);
+    if word == NO_READING {
+        return Reading::None;
+    }
+    let power = units::watt_of(word);
+    if !units::in_power_range(power) {
+        return Reading::OutOfRange;
+    }
+    Reading::Of(power)
 }
 
 // Byte 0 of a record.

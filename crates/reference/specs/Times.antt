@@ -3,7 +3,10 @@ use Prim.Native.Nat.{ℕ, _≤_}
 use mathlib.Core.Path.{_≡_}
 use mathlib.Core.Bool.{cond}
 use lib.Dec.{eqb}
+use Rattle.rules.specs.declared.Bounding.the-variants.{Unbounded as unbounded}
 use Rattle.rules.specs.Terms.{Terms}
+use Rattle.rules.specs.October.{boundingOf}
+use Rattle.units.specs.declared.Watt.{Watt}
 use Rattle.calendar.specs.declared.Clock.{Clock}
 use Rattle.calendar.specs.Clocks.{clockOf}
 use Rattle.reference.specs.declared.Reference.{Reference}
@@ -23,3 +26,7 @@ timingOf AsPlanned terms = NoDate
 pub record Shows (terms : Terms) (index : ℕ) (clock : Clock) : Type 0 where
   pub some : 1 ≤ terms .first
   pub is : clock ≡ clockOf (terms .first) index
+
+-- where T goes by the date, no reading bounds it
+abbrev pub FreeByDate : Reference → Terms → Type 0
+FreeByDate reference terms = (pn : Watt) → ByDate pn ≡ timingOf reference terms → unbounded ≡ boundingOf terms

@@ -1,17 +1,19 @@
 // The reference power T of a measure's quarters (document 01, 'Reference power T'): a numerator over one denominator D.
 ghost use mathlib.Core.Path.{_≡_};
-ghost use Prim.Native.Nat.{_≤_, _<_};
+ghost use Prim.Native.Nat.{_+_, _≤_, _<_};
 ghost use lib.ListN.{length};
 ghost use Rattle.rules.specs.Numbers.{orZero, smaller};
 ghost use Rattle.rules.specs.Archive.{byteAt, fieldAt};
-ghost use Rattle.rules.specs.Terms.{Quarter, monthOf, quarterOfDayOf, quarterOf};
+ghost use Rattle.rules.specs.Terms.{Quarter, monthOf, quarterOfDayOf, readingAt, quarterOf};
 ghost use Rattle.rules.specs.Reference as book;
 ghost use Rattle.terms.specs.Meanings.{meaning};
-ghost use Rattle.reference.specs.References.{Bounded, Held, Means, Divides, ReferredTo};
+ghost use Rattle.reference.specs.References.{Bounded, Held, Means, Divides, ReferredTo, LoweredTo, BoundedTo};
 ghost use Rattle.reference.specs.Times.{timingOf, Shows};
 use calendar::Clock;
 use curve::Curve;
 use record::Power;
+use record::Reading;
+use rules::Bounding;
 use terms::Terms;
 use units::Irradiance;
 use units::Watt;
@@ -205,4 +207,39 @@ pub fn numerator_by_date(pn: Watt, terms: Terms, index: u64, clock: Clock, r: &[
 {
     let date = clock.date;
     times_factor(pn, date.month, 96 - (clock.until - index))
+}
+
+// ---- with the readings that bound T from October 2026 on (document 02, 3)
+
+// The smaller of a numerator over d and a reading of the quarter times d.
+fn lowered(t: i64, d: u64, r: &[u8], at: usize) -> Numerator
+    requires { ⌜ (length (now r) ≡ 32) × (at + 4 ≤ 32) ⌝ }
+    requires { ⌜ d ≤ 4000000000 ⌝ }
+    ensures { λ n. ⌜ LoweredTo (readingAt (now (r .entry)) at) d t n ⌝ }
+{
+    match record::reading_at(r, at) {
+        Reading::None => Numerator::Of(t),
+        Reading::Of(power) => Numerator::Of(capped(t, power.0 * d as i64)),
+        Reading::OutOfRange => Numerator::OutOfRange,
+    }
+}
+
+// Wind Pauschal by both readings; other Pauschal, negative, by nonavailability.
+pub fn bounded(bounding: Bounding, d: u64, t: i64, r: &[u8]) -> Numerator
+    requires { ⌜ length (now r) ≡ 32 ⌝ }
+    requires { ⌜ d ≤ 4000000000 ⌝ }
+    ensures { λ n. ⌜ ((q : Quarter) → q .nonavailability ≡ readingAt (now (r .entry)) 24 → q .marketAdjustment ≡ readingAt (now (r .entry)) 28
+        → BoundedTo bounding d t q n) ⌝ }
+{
+    match bounding {
+        Bounding::Unbounded => Numerator::Of(t),
+        Bounding::ReferenceByBoth => {
+            let Numerator::Of(n) = lowered(t, d, r, 24) else {
+                return Numerator::OutOfRange;
+            };
+            lowered(n, d, r, 28)
+        }
+        Bounding::ReferenceByNonavailability => lowered(t, d, r, 24),
+        Bounding::LimitationByNonavailability => Numerator::Of(t),
+    }
 }

@@ -14,17 +14,19 @@ use Rattle.rules.specs.Outcome.{given}
 use Rattle.rules.specs.Numbers.{all, keep, sum, orZero, smaller, larger}
 use Rattle.rules.specs.Archive.{Entry, byteAt, fieldAt}
 use Rattle.rules.specs.Terms.{Technology, wind, solar, other, Variant, spitz, pauschal, Direction, positive, negative, Execution, requested, tolerated, fixed}
-use Rattle.rules.specs.Terms.{isPower, isSpeed, isIrradiance, isMarked, isNominalPower, plantAllowed, Terms, termsOf, Point, Before, Quarter, beforeOf, pointOf, pointAllowed}
-use Rattle.rules.specs.Reference.{limitation, limitOf, curvePower, FactorRow, factorRows, isSummer, isFor, firstFor, plantFactor}
+use Rattle.rules.specs.Terms.{isPower, isSpeed, isIrradiance, isMarked, isNominalPower, plantAllowed, Terms, termsOf, Point, Before, Reading, none as absent, of, Quarter, beforeOf, pointOf, pointAllowed}
+use Rattle.rules.specs.October.{Bounding, boundingOf, referenceBounds, limitationBounds, over, smallest, readingAllowed}
+use Rattle.rules.specs.Reference.{limitation, limitOf, referenceOf, curvePower, FactorRow, factorRows, isSummer, isFor, firstFor, plantFactor}
 use Rattle.rules.specs.Reference.{Reference, onCurve, lastMeasured, onIrradiance, byFactor, asPlanned, denominator, numerator, magnitude, exactOf}
 use Rattle.rules.specs.Settle.{admitted, Place, placeOf, Basis, pointsOf, beforesOf, marked, usable, upToUsed, totalMeasured, windBasis, firstMarked, pauschalBasis, solarBasis}
-use Rattle.rules.specs.Settle.{basisBy, basisOf, limitReadable, referenceReadable, readable}
+use Rattle.rules.specs.Settle.{basisBy, basisOf, limitReadable, referenceReadable, boundsReadable, readable}
 use Rattle.rules.proofs.Inversion.{Holds, holds-refused, holds-bind, holds-require, holds-given, All, none, more}
 use Rattle.rules.proofs.Ints.{under, parts-eq, le-parts, orZero-neg, under-neg, orZero-add, under-add, orZero-minus, orZero-times, under-times, mag-parts, parts-mag, mag-times}
 use Rattle.rules.proofs.Ranges.{within-natural, within-signed}
 use Rattle.rules.proofs.Sound.{both}
 use Rattle.rules.proofs.Lists.{all-passed, all-weaker, sum-low}
 use Rattle.rules.proofs.Chains.{chain-few}
+use Rattle.rules.proofs.October.{Low, smallest-low, smallest-over}
 use Rattle.rules.proofs.Curve.{curve-low, on-curve-natural}
 
 pub passes : {t : Bool} → T t → t ≡ true
@@ -165,13 +167,38 @@ magnitude-bound s d t l ht hl some = go s
     go negative = omega (arith, orZero-minus t (l *ℤ pos d), orZero-times l d, under-times l d, tp .0, below, some)
     go positive = omega (arith, orZero-minus (l *ℤ pos d) t, orZero-times l d, under-times l d, tp .1, above, some)
 
+-- ---- with the bounds of October 2026
+
+readings-low : (rs : List Reading) → all readingAllowed rs ≡ true → All (Low 1000000000) rs
+readings-low [] e = none
+readings-low (r ∷ rs) e = let b = both (readingAllowed r) (all readingAllowed rs) e in more (go r (b .0)) (readings-low rs (b .1))
+  where
+    go : (r : Reading) → readingAllowed r ≡ true → Low 1000000000 r
+    go absent h = tt
+    go (of power) h = power-small power h
+
+pub bounded-limit-small : (b : Bounding) (q : Quarter) (l : ℤ) → mag l ≤ 1000000000 → all readingAllowed (limitationBounds b q) ≡ true
+    → mag (smallest l (limitationBounds b q)) ≤ 1000000000
+bounded-limit-small b q l h e = smallest-low (limitationBounds b q) l 1000000000 h (readings-low (limitationBounds b q) e)
+
+pub bounded-reference-small : (b : Bounding) (q : Quarter) (d : ℕ) (t : ℤ) → DenominatorBounds d → Small d t → all readingAllowed (referenceBounds b q) ≡ true
+    → Small d (smallest t (map (over d) (referenceBounds b q)))
+bounded-reference-small b q d t h small e = record {
+  fits = smallest-over d _ t (referenceBounds b q) (omega (arith, h .low)) (small .fits) e;
+  near = smallest-over d _ t (referenceBounds b q) (omega arith) (small .near) e;
+}
+
 -- every readable quarter: at most 200,000,000,000,000 W over 4 h
 pub exact-small : (terms : Terms) (r : Reference) (q : Quarter) → Bounded r → readable terms r q ≡ true → exactOf terms r q ≤ 200000000000000 * denominator r
-unfolding exactOf
+unfolding exactOf limitOf referenceOf
 exact-small terms r q h e =
-    let b = both (limitReadable (terms .execution) (q .measured) (q .limit)) (referenceReadable r q) e in
-    magnitude-bound (terms .direction) (denominator r) _ _ (numerator-small r q h (b .1) .near)
-    (limit-small (terms .direction) (terms .execution) (q .measured) (q .limit) (b .0)) (denominator-bounded r h .some)
+    let tests = both (limitReadable (terms .execution) (q .measured) (q .limit) && referenceReadable r q) (boundsReadable (boundingOf terms) q) e in
+    let needed = both (limitReadable (terms .execution) (q .measured) (q .limit)) (referenceReadable r q) (tests .0) in
+    let bounds = both (all readingAllowed (referenceBounds (boundingOf terms) q)) (all readingAllowed (limitationBounds (boundingOf terms) q)) (tests .1) in
+    let d = denominator-bounded r h in
+    magnitude-bound (terms .direction) (denominator r) _ _
+    (bounded-reference-small (boundingOf terms) q (denominator r) (numerator r q) d (numerator-small r q h (needed .1)) (bounds .0) .near)
+    (bounded-limit-small (boundingOf terms) q _ (limit-small (terms .direction) (terms .execution) (q .measured) (q .limit) (needed .0)) (bounds .1)) (d .some)
 
 -- ---- lists
 

@@ -12,8 +12,9 @@ use Rattle.rules.specs.Outcome.{given, _>>=_, _>>_, require}
 use Rattle.rules.specs.Numbers.{smaller, larger, all}
 use Rattle.rules.specs.Archive.{isWhole, linkAt, twos, fieldAt, recordAt, usedOf, follow, chain}
 use Rattle.rules.specs.Calendar.{isLeapYear, yearLength, monthLengths, monthLength, dateOf, dayNumber, nextFirst, dayAfter, weekdayOf, dayOf, quarterOfDay, isWorkingDay, workingDays, nextMonth, deliveryDay}
-use Rattle.rules.specs.Terms.{monthOf, quarterOfDayOf, plantAllowed, measureAllowed, pointOf, pointAllowed, beforeOf, quarterOf}
-use Rattle.rules.specs.Reference.{limitation, readCurve, curvePower, factorRows, isFor, plantFactor, numerator, magnitude, exactOf}
+use Rattle.rules.specs.Terms.{monthOf, quarterOfDayOf, plantAllowed, measureAllowed, pointOf, pointAllowed, beforeOf, readingAt, quarterOf}
+use Rattle.rules.specs.October.{boundingOf}
+use Rattle.rules.specs.Reference.{limitation, readCurve, curvePower, factorRows, isFor, plantFactor, numerator, magnitude, limitOf, referenceOf, exactOf}
 use Rattle.rules.specs.Booking.{amountsOf}
 use Rattle.rules.specs.Settle.{admitted, placeOf, pointsOf, beforesOf, windBasis, firstMarked, solarBasis, basisBy, datesAllowed, quartersOf, settled, settle}
 use Rattle.rules.specs.Fractions.{exactFractions}
@@ -79,7 +80,7 @@ module _ {A : Type 0} (on : Equality A) where
 
 -- to unfold this is to unfold every definition that the examples compute with
 unfoldable pub rules : Unit {0}
-unfolding naturals integers lists _>>=_ _>>_ require smaller larger linkAt twos fieldAt recordAt usedOf follow chain plantAllowed measureAllowed pointOf pointAllowed beforeOf quarterOf limitation readCurve curvePower factorRows isFor plantFactor numerator magnitude exactOf amountsOf admitted placeOf pointsOf beforesOf windBasis firstMarked solarBasis basisBy quartersOf settled settle exactFractions word doubleWord encoded put hostSettle ownedBy linksOf ownedAt linksAt linkPlaces namers fresh offsetFor appendAfter append shown linkChecked recordChecked audit fileAll unlinked readUnder readBack linesFrom output decimal textOfAll flatMap caseA windCase plannedCase caseF caseG factorCase caseK fiveBefores twoPlants filingsA isLeapYear yearLength monthLengths monthLength dateOf dayNumber nextFirst dayAfter weekdayOf dayOf quarterOfDay isWorkingDay workingDays nextMonth deliveryDay monthOf quarterOfDayOf datesAllowed
+unfolding naturals integers lists _>>=_ _>>_ require smaller larger linkAt twos fieldAt recordAt usedOf follow chain plantAllowed measureAllowed pointOf pointAllowed beforeOf readingAt quarterOf boundingOf limitation readCurve curvePower factorRows isFor plantFactor numerator magnitude limitOf referenceOf exactOf amountsOf admitted placeOf pointsOf beforesOf windBasis firstMarked solarBasis basisBy quartersOf settled settle exactFractions word doubleWord encoded put hostSettle ownedBy linksOf ownedAt linksAt linkPlaces namers fresh offsetFor appendAfter append shown linkChecked recordChecked audit fileAll unlinked readUnder readBack linesFrom output decimal textOfAll flatMap caseA windCase plannedCase caseF caseG factorCase caseK fiveBefores twoPlants filingsA isLeapYear yearLength monthLengths monthLength dateOf dayNumber nextFirst dayAfter weekdayOf dayOf quarterOfDay isWorkingDay workingDays nextMonth deliveryDay monthOf quarterOfDayOf datesAllowed
 rules = tt
 
 pub figures-hold : Hold figures

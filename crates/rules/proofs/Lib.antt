@@ -17,6 +17,7 @@ pub mod Read
 pub mod ReadBack
 pub mod TakeBack
 pub mod Positive
+pub mod October
 pub mod Monotone
 pub mod Agree
 pub mod Refusals
@@ -32,6 +33,7 @@ pub mod Output
 pub mod Ranges
 pub mod Figures
 pub mod DateFigures
+pub mod OctoberFigures
 pub mod TakeBackFigures
 pub mod RaisedExample
 pub mod Walks

@@ -9,10 +9,12 @@ use lib.Signed.{_≤ℤ_}
 use lib.ListN.{take}
 use Rattle.rules.specs.Numbers.{sum, sumℤ, orZero}
 use Rattle.rules.specs.Terms.{Direction, positive, negative, Execution, requested, tolerated, fixed, Terms, Quarter}
-use Rattle.rules.specs.Reference.{limitation, curvePower, plantFactor, Reference, onCurve, lastMeasured, onIrradiance, byFactor, asPlanned, denominator, numerator, magnitude, exactOf}
+use Rattle.rules.specs.Reference.{limitation, curvePower, plantFactor, Reference, onCurve, lastMeasured, onIrradiance, byFactor, asPlanned, denominator, numerator, magnitude, limitOf, referenceOf, exactOf}
+use Rattle.rules.specs.October.{Bounding, unbounded, referenceByBoth, referenceByNonavailability, limitationByNonavailability, boundingOf, referenceBounds, limitationBounds}
 use Rattle.rules.specs.Numbers.{smaller}
 use Rattle.rules.specs.Booking.{signed, bookedFrom, amountsOf}
 use Rattle.rules.proofs.Ints.{parts-le, neg-mono, times-mono, minus-mono, minus-anti, smaller-mono, larger-mono}
+use Rattle.rules.proofs.October.{smallest-mono}
 use Rattle.rules.proofs.Stretch.{booked-sum, booked-take, take-map, sum-signed, div-mono}
 
 -- the second quarter has the first one's readings, but for a measured power and a limit that may be higher
@@ -21,6 +23,8 @@ pub record Higher (q q′ : Quarter) : Type 0 where
   pub quarterOfDay : q .quarterOfDay ≡ q′ .quarterOfDay
   pub weather : q .weather ≡ q′ .weather
   pub planned : q .planned ≡ q′ .planned
+  pub nonavailability : q .nonavailability ≡ q′ .nonavailability
+  pub marketAdjustment : q .marketAdjustment ≡ q′ .marketAdjustment
   pub measured : q .measured ≤ℤ q′ .measured
   pub limit : q .limit ≤ℤ q′ .limit
 
@@ -52,11 +56,36 @@ unfolding magnitude
 magnitude-falls negative d t h = minus-anti t (times-mono d h)
 magnitude-falls positive d t h = minus-mono t (times-mono d h)
 
+-- ---- with the bounds of October 2026
+
+reference-bounds-same : (b : Bounding) {q q′ : Quarter} → Higher q q′ → referenceBounds b q ≡ referenceBounds b q′
+reference-bounds-same unbounded h = refl
+reference-bounds-same referenceByBoth h = rw (h .nonavailability, h .marketAdjustment)
+reference-bounds-same referenceByNonavailability h = rw (h .nonavailability)
+reference-bounds-same limitationByNonavailability h = refl
+
+limitation-bounds-same : (b : Bounding) {q q′ : Quarter} → Higher q q′ → limitationBounds b q ≡ limitationBounds b q′
+limitation-bounds-same unbounded h = refl
+limitation-bounds-same referenceByBoth h = refl
+limitation-bounds-same referenceByNonavailability h = refl
+limitation-bounds-same limitationByNonavailability h = rw (h .nonavailability)
+
+-- T reads neither measured power nor limit
+pub reference-same : (terms : Terms) (r : Reference) {q q′ : Quarter} → Higher q q′ → referenceOf terms r q ≡ referenceOf terms r q′
+unfolding referenceOf
+reference-same terms r h = rw (numerator-same r h, reference-bounds-same (boundingOf terms) h)
+
+-- L rises with them
+pub limit-rises : (terms : Terms) {q q′ : Quarter} → Higher q q′ → limitOf terms q ≤ℤ limitOf terms q′
+unfolding limitOf
+limit-rises terms {q} {q′} h =
+    rw (limitation-bounds-same (boundingOf terms) h)
+    (smallest-mono (limitationBounds (boundingOf terms) q′) (limitation-mono (terms .direction) (terms .execution) (h .measured) (h .limit)))
+
 exact-falls : (terms : Terms) (r : Reference) {q q′ : Quarter} → Higher q q′ → NoMore (terms .direction) (exactOf terms r q) (exactOf terms r q′)
 unfolding exactOf
 exact-falls terms r {q} {q′} h =
-    rw (numerator-same r h)
-    (magnitude-falls (terms .direction) (denominator r) (numerator r q′) (limitation-mono (terms .direction) (terms .execution) (h .measured) (h .limit)))
+    rw (reference-same terms r h) (magnitude-falls (terms .direction) (denominator r) (referenceOf terms r q′) (limit-rises terms h))
 
 -- the same along two lists
 pub data Along {A B : Type 0} (R : A → B → Type 0) : List A → List B → Type 0 where

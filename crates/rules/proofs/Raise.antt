@@ -1,11 +1,11 @@
 -- Demand 3 of two calls: where some measured powers or limits of a measure's quarters are higher, no running total is.
 use mathlib.Core.Path.{_≡_, refl, sym, _∙_, ap, subst}
-use mathlib.Core.Bool.{Bool, true, false, cond, _&&_, _||_, or-true}
+use mathlib.Core.Bool.{Bool, true, false, cond, _&&_, _||_, and-false, or-true}
 use mathlib.Core.List.{List, [], _∷_, map}
 use Prim.Native.Nat.{ℕ, zero, suc, _+_, _≤_, _<_}
 use native.Mathlib.Omega.{arith}
-use borrow.Author.Tests.{eqb-true, eq-eqb}
-use lib.Dec.{T, eqb, ltb, eqb→eq, lit<}
+use borrow.Author.Tests.{eqb-true, eq-eqb, lt-leb}
+use lib.Dec.{T, eqb, leb, ltb, eqb→eq, lit<}
 use lib.IntN.{ℤ}
 use lib.Signed.{_≤ℤ_}
 use lib.ListN.{length, take, drop}
@@ -13,9 +13,9 @@ use lib.Seq.{take-append-le}
 use Rattle.rules.specs.Outcome.{Outcome, given, _>>=_, _>>_, require}
 use Rattle.rules.specs.Refusals.{settleRefusals}
 use Rattle.rules.specs.Numbers.{sumℤ, member, mapFrom}
-use Rattle.rules.specs.Archive.{byteAt, linkAt, fieldAt, recordAt, kindOf, nextOf, isText, usedOf, Entry, entryAt, follow, chainFrom, chain}
+use Rattle.rules.specs.Archive.{byteAt, linkAt, twos, fieldAt, recordAt, kindOf, nextOf, isText, usedOf, Entry, entryAt, follow, chainFrom, chain}
 use Rattle.rules.specs.Calendar.{dateOf, dayOf, quarterOfDay}
-use Rattle.rules.specs.Terms.{Terms, numberAt, monthOf, quarterOfDayOf, Quarter, quarterOf}
+use Rattle.rules.specs.Terms.{Terms, numberAt, monthOf, quarterOfDayOf, readingAt, Quarter, quarterOf}
 use Rattle.rules.specs.Settle.{Place, placeOf, Basis, quarterChain, quartersRead, measureDenominator, Settlement, settlementOf, settle, Answer, answerOf, listAfter}
 use Rattle.rules.specs.Fractions.{quarterNumbers, Raised}
 use Rattle.rules.specs.Promises.{Settles}
@@ -25,7 +25,7 @@ use Rattle.rules.proofs.Positive.{basis-positive}
 use Rattle.rules.proofs.Refusals.{given-by-number, number-is, every-call-answers}
 use Rattle.rules.proofs.Settled.{MadeFrom, made-from, ReadFrom, read-from, count-is}
 use Rattle.rules.proofs.Monotone.{Higher, Along, done, then, running-falls}
-use Rattle.rules.proofs.Agree.{Agree, agree, kind-same, next-same, place-same, basis-same}
+use Rattle.rules.proofs.Agree.{elsewhere, Agree, agree, kind-same, next-same, place-same, basis-same}
 
 -- ---- records met on a chain
 
@@ -80,10 +80,8 @@ module _ (a b : List ℕ) (g : Agree a b) (used kind : ℕ) where
 
 -- ---- the readings of the same quarter in both
 
-word-same : (r s : List ℕ) (at : ℕ) → byteAt r at ≡ byteAt s at → byteAt r (at + 1) ≡ byteAt s (at + 1) → byteAt r (at + 2) ≡ byteAt s (at + 2)
-    → byteAt r (at + 3) ≡ byteAt s (at + 3) → fieldAt r at ≡ fieldAt s at
-unfolding fieldAt linkAt
-word-same r s at e₀ e₁ e₂ e₃ = rw (e₀, e₁, e₂, e₃)
+above-readings : (i : ℕ) → 15 < i → T (elsewhere i)
+above-readings i h = rw (lt-leb i 15 h, and-false (leb 8 i)) tt
 
 here : (n : ℕ) (ns : List ℕ) → member n (n ∷ ns) ≡ true
 here n ns = rw (eq-eqb n n refl)
@@ -92,13 +90,31 @@ there : (n m : ℕ) (ns : List ℕ) → member n ns ≡ true → member n (m ∷
 there n m ns k = rw k (or-true (eqb n m))
 
 module _ (a b : List ℕ) (p k : ℕ) (g : Agree a b) (raised : Raised a b p k) (terms : Terms) where
+  -- four bytes behind them
+  word-same : (n at : ℕ) → 15 < at → at < 29 → linkAt (recordAt a n) at ≡ linkAt (recordAt b n) at
+  unfolding linkAt
+  word-same n at low high = rw (same at low (omega arith), same (at + 1) (omega arith) (omega arith), same (at + 2) (omega arith) (omega arith), same (at + 3) (omega arith) (omega arith))
+    where
+      same : (i : ℕ) → 15 < i → i < 32 → byteAt (recordAt a n) i ≡ byteAt (recordAt b n) i
+      same i l h = g .outside n i h (above-readings i l)
+
+  field-same : (n at : ℕ) → 15 < at → at < 29 → fieldAt (recordAt a n) at ≡ fieldAt (recordAt b n) at
+  unfolding fieldAt
+  field-same n at low high = ap twos (word-same n at low high)
+
+  reading-same : (n at : ℕ) → 15 < at → at < 29 → readingAt (recordAt a n) at ≡ readingAt (recordAt b n) at
+  unfolding readingAt
+  reading-same n at low high = rw (word-same n at low high, field-same n at low high)
+
   quarter-higher : (n index : ℕ) → member n (quarterNumbers a p k) ≡ true → Higher (quarterOf terms index (recordAt a n)) (quarterOf terms index (recordAt b n))
   unfolding quarterOf monthOf quarterOfDayOf
   quarter-higher n index m = record {
     month = ap (λ (b : ℕ). cond (eqb (terms .first) 0) b (dateOf (dayOf (numberAt terms index)) .month)) (g .outside n 1 (lit< tt) tt);
     quarterOfDay = ap (λ (b : ℕ). cond (eqb (terms .first) 0) b (quarterOfDay (numberAt terms index))) (g .outside n 2 (lit< tt) tt);
-    weather = word-same (recordAt a n) (recordAt b n) 16 (g .outside n 16 (lit< tt) tt) (g .outside n 17 (lit< tt) tt) (g .outside n 18 (lit< tt) tt) (g .outside n 19 (lit< tt) tt);
-    planned = word-same (recordAt a n) (recordAt b n) 20 (g .outside n 20 (lit< tt) tt) (g .outside n 21 (lit< tt) tt) (g .outside n 22 (lit< tt) tt) (g .outside n 23 (lit< tt) tt);
+    weather = field-same n 16 (lit< tt) (lit< tt);
+    planned = field-same n 20 (lit< tt) (lit< tt);
+    nonavailability = reading-same n 24 (lit< tt) (lit< tt);
+    marketAdjustment = reading-same n 28 (lit< tt) (lit< tt);
     measured = raised .measured-no-lower n m;
     limit = raised .limit-no-lower n m;
   }

@@ -110,6 +110,10 @@ numberFor archive places = number (settle archive 1 1 places)
 abbrev late : List ℤ
 late = pos 18 ∷ []
 
+-- a, with no reading of nonavailability in its quarters (02, 3)
+abbrev unboundedA : List ℕ
+unboundedA = withWord (withWord (withWord caseA 4 24 2147483647) 5 24 2147483647) 6 24 2147483647
+
 unfoldable pub overMonths : List (List ℤ × List ℤ)
 overMonths =
     -- from 31 October 2026, 23:45, to 1 November, 0:15, whatever bytes 1 and 2 of the quarters are; where July, 10:00, gives 154,725 each
@@ -134,7 +138,7 @@ datedMeasures =
     ∷ (numberFor (withWord (factorCase 7 35) 2 16 3506400) 2, late)
     ∷ (numberFor (withWord (factorCase 7 35) 2 16 3506401) 2, late)
     -- other Pauschal: the last allowed first quarter, one later, the first one past the end, 2^31, and where first and count pass 32 bits
-    ∷ (settling (withWord caseA 2 16 3506398) 1 1 3, settlesA)
+    ∷ (settling (withWord unboundedA 2 16 3506398) 1 1 3, settlesA)
     ∷ (settling (withWord caseA 2 16 3506399) 1 1 3, refuses 18 3)
     ∷ (numberFor (withWord caseA 2 16 3506401) 3, late)
     ∷ (numberFor (withWord caseA 2 16 (2 ^ 31)) 3, late)

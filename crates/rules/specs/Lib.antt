@@ -4,6 +4,7 @@ pub mod Numbers
 pub mod Calendar
 pub mod Archive
 pub mod Terms
+pub mod October
 pub mod Reference
 pub mod Booking
 pub mod Settle
@@ -20,4 +21,5 @@ pub mod Promises
 pub mod Demands
 pub mod Figures
 pub mod DateFigures
+pub mod OctoberFigures
 pub mod TakeBackFigures

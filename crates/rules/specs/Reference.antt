@@ -1,11 +1,12 @@
 -- From readings to exact fractions (01): limitation value, power curve, plant factor, reference power, exact magnitude.
 use Prim.Native.Nat.{ℕ, _+_, _*_, _-_, _/_}
 use mathlib.Core.Bool.{Bool, true, false, cond, Bool·beq, _&&_, _||_}
-use mathlib.Core.List.{List, [], _∷_}
+use mathlib.Core.List.{List, [], _∷_, map}
 use lib.Dec.{leb, ltb}
 use lib.IntN.{ℤ, pos, _-ℤ_, _*ℤ_}
 use Rattle.rules.specs.Numbers.{smaller, larger, orZero}
 use Rattle.rules.specs.Terms.{Direction, positive, negative, Execution, requested, tolerated, fixed, Terms, Point, Quarter}
+use Rattle.rules.specs.October.{boundingOf, referenceBounds, limitationBounds, over, smallest}
 pub use Rattle.rules.specs.declared.FactorRow.{FactorRow}
 
 -- ---- limitation value L (Wert der Leistungslimitierung, 001, 3.1)
@@ -111,9 +112,14 @@ unfoldable pub magnitude : Direction → ℕ → ℤ → ℤ → ℕ
 magnitude negative d t l = orZero (t -ℤ l *ℤ pos d)
 magnitude positive d t l = orZero (l *ℤ pos d -ℤ t)
 
--- a quarter's L
-abbrev pub limitOf : Terms → Quarter → ℤ
-limitOf terms q = limitation (terms .direction) (terms .execution) (q .measured) (q .limit)
+-- a quarter's L, with what bounds it from October 2026 on (02, 3)
+unfoldable pub limitOf : Terms → Quarter → ℤ
+limitOf terms q =
+    smallest (limitation (terms .direction) (terms .execution) (q .measured) (q .limit)) (limitationBounds (boundingOf terms) q)
+
+-- the numerator of a quarter's T over D, with what bounds it from October 2026 on: powers times D (02, 3)
+unfoldable pub referenceOf : Terms → Reference → Quarter → ℤ
+referenceOf terms reference q = smallest (numerator reference q) (map (over (denominator reference)) (referenceBounds (boundingOf terms) q))
 
 unfoldable pub exactOf : Terms → Reference → Quarter → ℕ
-exactOf terms reference q = magnitude (terms .direction) (denominator reference) (numerator reference q) (limitOf terms q)
+exactOf terms reference q = magnitude (terms .direction) (denominator reference) (referenceOf terms reference q) (limitOf terms q)

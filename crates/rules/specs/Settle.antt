@@ -17,6 +17,7 @@ use Rattle.rules.specs.Calendar.{lastQuarter}
 use Rattle.rules.specs.Terms.{Technology, wind, solar, other, Variant, spitz, pauschal, Execution, requested, tolerated, fixed}
 use Rattle.rules.specs.Terms.{Terms, termsOf, plantAllowed, measureAllowed, numberAt}
 use Rattle.rules.specs.Terms.{isPower, isSpeed, isIrradiance, isMarked, markAllowed, Point, Before, Quarter, pointOf, pointAllowed, beforeOf, quarterOf}
+use Rattle.rules.specs.October.{Bounding, boundingOf, referenceBounds, limitationBounds, readingAllowed}
 use Rattle.rules.specs.Reference.{curvePower, Reference, onCurve, lastMeasured, onIrradiance, byFactor, asPlanned, denominator, exactOf}
 use Rattle.rules.specs.Booking.{amountsOf}
 
@@ -168,8 +169,13 @@ limitReadable requested measured limit = isPower measured && isPower limit
 limitReadable tolerated measured limit = isPower measured
 limitReadable fixed measured limit = isPower measured
 
+-- the readings that bound T or L are none or in range, whether or not one of them is the smallest (02, 3)
+abbrev pub boundsReadable : Bounding → Quarter → Bool
+boundsReadable bounding q = all readingAllowed (referenceBounds bounding q) && all readingAllowed (limitationBounds bounding q)
+
 abbrev pub readable : Terms → Reference → Quarter → Bool
-readable terms reference q = limitReadable (terms .execution) (q .measured) (q .limit) && referenceReadable reference q
+readable terms reference q =
+    limitReadable (terms .execution) (q .measured) (q .limit) && referenceReadable reference q && boundsReadable (boundingOf terms) q
 
 -- what refusal 18 tests: the first and the last of so many quarters aren't past the calendar's end; a measure without a date has none to test
 -- (02, 1)

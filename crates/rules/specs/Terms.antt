@@ -141,7 +141,17 @@ monthOf terms index r = cond (eqb (terms .first) 0) (byteAt r 1) (dateOf (dayOf 
 unfoldable pub quarterOfDayOf : Terms → ℕ → List ℕ → ℕ
 quarterOfDayOf terms index r = cond (eqb (terms .first) 0) (byteAt r 2) (quarterOfDay (numberAt terms index))
 
--- a quarter-hour of the measure: 8-11 measured power, 12-15 sent limit, 16-19 weather, 20-23 planned power
+-- a power that a quarter may be without (02, 3)
+pub data Reading : Type 0 where
+  none : Reading
+  of : (power : ℤ) → Reading
+
+-- 2,147,483,647 means none, and no other number does
+unfoldable pub readingAt : List ℕ → ℕ → Reading
+readingAt r at = cond (eqb (linkAt r at) 2147483647) none (of (fieldAt r at))
+
+-- a quarter-hour of the measure: 8-11 measured power, 12-15 sent limit, 16-19 weather, 20-23 planned power; 24-27 power while not available
+-- (Nichtbeanspruchbarkeit), 28-31 power after market adjustment (marktbedingte Anpassung)
 pub record Quarter : Type 0 where
   pub month : ℕ
   pub quarterOfDay : ℕ
@@ -149,6 +159,8 @@ pub record Quarter : Type 0 where
   pub limit : ℤ
   pub weather : ℤ
   pub planned : ℤ
+  pub nonavailability : Reading
+  pub marketAdjustment : Reading
 
 unfoldable pub quarterOf : Terms → ℕ → List ℕ → Quarter
 quarterOf terms index r = record {
@@ -158,4 +170,6 @@ quarterOf terms index r = record {
   limit = fieldAt r 12;
   weather = fieldAt r 16;
   planned = fieldAt r 20;
+  nonavailability = readingAt r 24;
+  marketAdjustment = readingAt r 28;
 }

@@ -29,6 +29,15 @@ pub enum Execution {
     Fixed,
 }
 
+// What a quarter's readings of October 2026 bound: nothing; the reference power T, by both or by nonavailability alone; the limitation
+// value L, by nonavailability.
+pub enum Bounding {
+    Unbounded,
+    ReferenceByBoth,
+    ReferenceByNonavailability,
+    LimitationByNonavailability,
+}
+
 // A row of the plant factors (Anlagenfaktor): summer or winter, from this quarter of the day until that one, over midnight
 // where `until` is the smaller; the factor is in ten-thousandths.
 pub struct FactorRow {

@@ -3,7 +3,9 @@ ghost use mathlib.Core.Path.{_≡_};
 ghost use lib.ListN.{length};
 ghost use Rattle.rules.specs.Terms.{technologyOf, variantOf, plantAllowed, directionOf, executionOf, measureAllowed};
 ghost use Rattle.rules.specs.Settle.{admitted};
-ghost use Rattle.terms.specs.Meanings.{admittedAnswer};
+ghost use Rattle.rules.specs.October.{boundingOf};
+ghost use Rattle.terms.specs.Meanings.{meaning, admittedAnswer};
+use rules::Bounding;
 use rules::Direction;
 use rules::Execution;
 use rules::Technology;
@@ -152,4 +154,32 @@ pub fn admit(plant: &[u8], measure: &[u8]) -> Admitted
         execution,
         first,
     })
+}
+
+// ---- the rules of October 2026 (document 02, 3)
+
+// Number of the quarter-hour from 1 October 2026, 0:00, on.
+const OCTOBER_2026: u64 = 937921;
+
+// What the readings of the measure's quarters bound. Its first quarter decides for all of them.
+pub fn bounding_of(terms: Terms) -> Bounding
+    ensures { λ r. ⌜ r ≡ boundingOf (meaning terms) ⌝ }
+{
+    if terms.first.0 < OCTOBER_2026 {
+        return Bounding::Unbounded;
+    }
+    let technology = terms.technology;
+    let variant = terms.variant;
+    let direction = terms.direction;
+    match variant {
+        Variant::Spitz => Bounding::Unbounded,
+        Variant::Pauschal => match technology {
+            Technology::Wind => Bounding::ReferenceByBoth,
+            Technology::Solar => Bounding::Unbounded,
+            Technology::Other => match direction {
+                Direction::Positive => Bounding::LimitationByNonavailability,
+                Direction::Negative => Bounding::ReferenceByNonavailability,
+            },
+        },
+    }
 }

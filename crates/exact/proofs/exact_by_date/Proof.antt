@@ -35,7 +35,7 @@ returns c =
 numerator-by-date-requires : tie.Need-numerator-by-date-requires
 numerator-by-date-requires c κs =
     let s = c .before .before .before .before .before in
-    (s .pre .0 .held .bounded, s .pre .1)
+    (s .pre .0 .held .bounded, s .pre .1 .0)
 
 magnitude-requires : tie.Need-magnitude-requires
 unfolding quarterOf
@@ -67,7 +67,7 @@ returns-2 c =
     let q = quarterOf (meaning (a .terms)) (a .index) (a .r .now) in
     let ref = book.byFactor (orZero (a .pn .0)) in
     let l = at-l .l .given in
-    exact-is (meaning (a .terms)) ref q (l .1) (at-limit-of .limit-of .ensures) refl (t .ensures)
+    exact-is (meaning (a .terms)) ref q (l .1) (at-limit-of .limit-of .ensures) refl (t .ensures) (s .pre .1 .1)
     (s .pre .0 .divides .is [] ref (record { is = refl; natural = s .pre .0 .held .bounded .is }))
     (c .magnitude .ensures ∙ ap (λ (z : ℤ). magnitude (a .terms .direction) (a .d) z (l .0 .0 .0)) (back (t .result) (t .ok)))
 

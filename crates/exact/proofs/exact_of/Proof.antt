@@ -89,7 +89,7 @@ returns-3 c =
     λ ref m.
     let b = means-bounded (a .reference) (a .powers .now) ref m (s .pre .0 .held .bounded) in
     let referred = at-numerator-of .numerator-of .ensures ref m in
-    exact-is (meaning (a .terms)) ref q (l .1) limited (t .1) referred (s .pre .0 .divides .is (a .powers .now) ref m)
+    exact-is (meaning (a .terms)) ref q (l .1) limited (t .1) referred (s .pre .1 .1) (s .pre .0 .divides .is (a .powers .now) ref m)
     (c .magnitude .ensures
     ∙ ap (λ (z : ℤ). magnitude (a .terms .direction) (a .d) z (l .0 .0 .0))
     (back (t .0 .0) (omega (arith, referred-small (meaning (a .terms)) ref q (l .1) limited (t .1) referred b))))

@@ -48,7 +48,7 @@ link-of-requires c κs =
     (end-within (p .measure-used) (p .room), lit≤ tt)
 
 clock-of-requires : tie.Need-clock-of-requires Inv-loop μ-loop
-clock-of-requires c κs = c .before .before .before .before .before .pre .1 .1
+clock-of-requires c κs = c .before .before .before .before .before .pre .1 .1 .0
 
 loop-holds : tie.Need-loop-holds Inv-loop μ-loop
 loop-holds c = (going-starts (c .before .before .before .before .before .before .pre .0 .measure-used), c .clock-of .ensures .is)
@@ -94,7 +94,7 @@ exact-by-date-requires c κs =
     let t = turn (c .before) in
     let p = entry t .pre in (
       record { held = p .1 .0 .held; divides = p .1 .0 .divides; size = part-size _ (c .r .given .2) },
-      record { some = p .1 .1; is = t .loop .inv .1 },
+      (record { some = p .1 .1 .0; is = t .loop .inv .1 }, p .1 .1 .1),
     )
 
 enter-requires : tie.Need-enter-requires Inv-loop μ-loop
@@ -132,7 +132,7 @@ loop-again c =
       going-on (t .loop .inv .0) (x .exact-by-date .result) (at-hand n) (c .before .link-of2 .ensures .0)
           (λ ref k. rw (k .is) (x .exact-by-date .ensures ∙ ap (λ (r : List ℕ). quarterAnswer terms (book.byFactor (orZero (a .pn .0))) (quarterOf terms (t .loop .count) r)) (record-part (a .archive .now) _)))
           (ap (λ (z : Bool). z && t .loop .fine) (e .enter .ensures .0)) (e .enter .ensures .1) (e .enter .kept .0),
-      c .after .ensures ∙ ap (λ (k : Clock). clockAfter k (t .loop .count + 1)) (t .loop .inv .1) ∙ clock-next (terms .first) (t .loop .count) (entry t .pre .1 .1),
+      c .after .ensures ∙ ap (λ (k : Clock). clockAfter k (t .loop .count + 1)) (t .loop .inv .1) ∙ clock-next (terms .first) (t .loop .count) (entry t .pre .1 .1 .0),
     )
 
 answer-at-end-requires : tie.Need-answer-at-end-requires Inv-loop μ-loop
