@@ -22,6 +22,9 @@ pub const FIRST: usize = 8;
 pub const SECOND: usize = 12;
 /// Place of a measure's first quarter as a number of the calendar.
 pub const DATE: usize = 16;
+/// Places of a quarter's power while not available and power after market adjustment.
+pub const NONAVAILABLE: usize = 24;
+pub const ADJUSTED: usize = 28;
 
 /// The 32 bytes of record `number`.
 pub fn record(archive: &[u8], number: u64) -> &[u8] {

@@ -25,6 +25,9 @@ pub struct Quarter {
     pub limit: i32,
     pub weather: i32,
     pub planned: i32,
+    /// Power while not available and power after market adjustment, `i32::MAX` for none.
+    pub nonavailable: i32,
+    pub adjusted: i32,
 }
 
 #[derive(Clone, Debug)]
@@ -192,6 +195,8 @@ pub fn quarter_record(quarter: &Quarter, rng: &mut Rng, noise: bool) -> [u8; REC
     put(&mut bytes, 12, quarter.limit);
     put(&mut bytes, 16, quarter.weather);
     put(&mut bytes, 20, quarter.planned);
+    put(&mut bytes, NONAVAILABLE, quarter.nonavailable);
+    put(&mut bytes, ADJUSTED, quarter.adjusted);
     bytes
 }
 

@@ -42,6 +42,8 @@ const SMALL: usize = 16;
 /// Curves with more points than this get the table from the start.
 const SMALL_CURVE: usize = 24;
 const LIMIT: i32 = 1_000_000_000;
+/// The first quarter from which request 3's rules hold.
+const OCTOBER: u32 = crate::settle::OCTOBER as u32;
 
 #[inline(always)]
 fn int(record: &Record, at: usize) -> i32 {
@@ -514,6 +516,18 @@ fn limitation(quarter: &Record, requested: bool, positive: bool) -> Option<i64> 
     Some(if positive { measured.min(limit) } else { measured.max(limit) } as i64)
 }
 
+/// A reading of request 3 a step up: none, the largest number, becomes the lowest one.
+#[inline(always)]
+fn stepped(reading: i32) -> i32 {
+    reading.wrapping_add(1)
+}
+
+/// Whether readings are none or in range, by the largest of them a step up and a minimum over them, which none isn't.
+#[inline(always)]
+fn readings_ok(largest: i32, smallest: i32) -> bool {
+    largest <= stepped(LIMIT) && smallest >= -LIMIT
+}
+
 /// Factors of a month's days.
 #[inline(always)]
 fn factors(month: u8) -> &'static [u16; 96] {
@@ -589,6 +603,46 @@ fn before(
         return Err(9);
     }
     Ok((found, usable))
+}
+
+/// The quarters of wind and other Pauschal by the rules of October 2026, a loop for each way of finding the magnitude.
+/// In a function of its own, so that the other measures stay as quick. Differences fit 32 bits.
+#[inline(never)]
+#[allow(clippy::too_many_arguments)]
+fn since_october(
+    records: Records,
+    measure: u32,
+    wind: bool,
+    positive: bool,
+    requested: bool,
+    carried: i32,
+    links: u64,
+    write: impl FnOnce(&[i64]) -> bool,
+) -> Answer {
+    if wind {
+        let rule = move |quarter: &Record| {
+            let l = limitation(quarter, requested, false)? as i32;
+            let (one, other) = (int(quarter, 24), int(quarter, 28));
+            let t = one.min(other).min(carried);
+            readings_ok(stepped(one).max(stepped(other)), t).then(|| i64::from((t - l).max(0)))
+        };
+        quarters(records, measure, 1, links, Fixed::<4>, Some(rule), |_| rule, write)
+    } else if positive {
+        let rule = move |quarter: &Record| {
+            let reading = int(quarter, 24);
+            let l = reading.min(limitation(quarter, requested, true)? as i32);
+            readings_ok(stepped(reading), l).then(|| i64::from((l - carried).max(0)))
+        };
+        quarters(records, measure, -1, links, Fixed::<4>, Some(rule), |_| rule, write)
+    } else {
+        let rule = move |quarter: &Record| {
+            let l = limitation(quarter, requested, false)? as i32;
+            let reading = int(quarter, 24);
+            let t = reading.min(carried);
+            readings_ok(stepped(reading), t).then(|| i64::from((t - l).max(0)))
+        };
+        quarters(records, measure, 1, links, Fixed::<4>, Some(rule), |_| rule, write)
+    }
 }
 
 #[inline(always)]
@@ -723,6 +777,11 @@ fn settled(archive: &[u8], p: u64, k: u64, write: impl FnOnce(&[i64]) -> bool) -
             }
             links += found.count;
             let carried = found.a;
+            if link(measure, 16) >= OCTOBER {
+                let wind = technology == 1;
+                let carried = carried as i32;
+                return Ok(since_october(records, measure_number, wind, positive, requested, carried, links, write));
+            }
             let rule = move |quarter: &Record| {
                 let difference = carried - limitation(quarter, requested, positive)?;
                 Some(if positive { -difference } else { difference })

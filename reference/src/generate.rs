@@ -1,5 +1,5 @@
-//! Seeded calls on document 01's archive, request 1's calendar and request 2's last record: valid ones, one fault,
-//! several faults, mutations and noise.
+//! Seeded calls on document 01's archive, request 1's calendar, request 2's last record and request 3's readings: valid
+//! ones, one fault, several faults, mutations and noise.
 //!
 //! Every seed and index gives one call, the same everywhere.
 
@@ -7,7 +7,7 @@ use crate::archive::*;
 use crate::builder::*;
 use crate::calendar::{self, Day, QuarterHour, LAST};
 use crate::rng::Rng;
-use crate::settle::{curve_power, Pairing};
+use crate::settle::{curve_power, Pairing, OCTOBER};
 
 /// One call with its arguments.
 #[derive(Clone, Debug)]
@@ -108,6 +108,8 @@ pub enum Fault {
     BeforeMeasured,
     BeforeWeather,
     QuarterField,
+    Nonavailable,
+    Adjusted,
     // 10
     FewPoints,
     NotRising,
@@ -129,7 +131,7 @@ const FAULTS: &[Fault] = &[
     Length, Text, Used, Link(Plants), Link(Measures), Link(Curve), Link(Chain::Before), Link(Quarters), Kind(Plants),
     Kind(Measures), Kind(Curve), Kind(Chain::Before), Kind(Quarters), NoPlant, NoMeasure, Technology, Variant, Nominal,
     Direction, Execution, Positive, NoQuarter, ManyQuarters, ManyBefore, CurveField, BeforeMark, BeforeMeasured,
-    BeforeWeather, QuarterField, FewPoints, NotRising, FewUsable, ZeroB, List, ResultPart, Late,
+    BeforeWeather, QuarterField, Nonavailable, Adjusted, FewPoints, NotRising, FewUsable, ZeroB, List, ResultPart, Late,
 ];
 
 /// Pairs of faults whose order document 01 and the decisions fix. Pairs with a late date are made apart from these.
@@ -149,8 +151,13 @@ const PAIRS: &[(Fault, Fault)] = &[
     (ManyQuarters, List), (NoQuarter, List), (QuarterField, List), (QuarterField, ResultPart), (List, ResultPart),
     (NoPlant, ResultPart), (Technology, ResultPart), (ZeroB, ResultPart), (NoQuarter, ResultPart), (NoQuarter, ZeroB),
     (Text, NoPlant), (Used, ResultPart), (Length, List), (QuarterField, Link(Quarters)), (QuarterField, BeforeMeasured),
-    (NoPlant, NoMeasure), (NoMeasure, Kind(Plants)),
+    (NoPlant, NoMeasure), (NoMeasure, Kind(Plants)), (Nonavailable, List), (Nonavailable, ResultPart), (Adjusted, List),
+    (Nonavailable, Link(Quarters)), (Adjusted, Kind(Quarters)), (Nonavailable, ManyQuarters), (Adjusted, FewUsable),
+    (Nonavailable, BeforeMeasured), (Nonavailable, QuarterField), (Nonavailable, Adjusted), (Nonavailable, Direction),
 ];
+
+/// Faults of request 3.
+const READINGS: [Fault; 2] = [Nonavailable, Adjusted];
 
 impl Fault {
     /// Its row of the table.
@@ -164,7 +171,7 @@ impl Fault {
             Technology | Variant | Nominal => 6,
             Direction | Execution | Positive => 7,
             NoQuarter | ManyQuarters | ManyBefore => 8,
-            CurveField | BeforeMark | BeforeMeasured | BeforeWeather | QuarterField => 9,
+            CurveField | BeforeMark | BeforeMeasured | BeforeWeather | QuarterField | Nonavailable | Adjusted => 9,
             FewPoints | NotRising => 10,
             FewUsable => 11,
             ZeroB => 12,
@@ -181,6 +188,8 @@ impl Fault {
                 uses_before(pairing)
             }
             BeforeWeather | ZeroB => matches!(pairing, Pairing::WindSpitz | Pairing::SolarSpitz),
+            Nonavailable => has_readings(pairing),
+            Adjusted => pairing == Pairing::WindPauschal,
             Positive => !matches!(pairing, Pairing::OtherSpitz | Pairing::OtherPauschal),
             _ => true,
         }
@@ -189,6 +198,11 @@ impl Fault {
 
 fn uses_before(pairing: Pairing) -> bool {
     !matches!(pairing, Pairing::SolarPauschal | Pairing::OtherSpitz)
+}
+
+/// Whether request 3 gives the pairing readings; both are wind's alone.
+fn has_readings(pairing: Pairing) -> bool {
+    matches!(pairing, Pairing::WindPauschal | Pairing::OtherPauschal)
 }
 
 // ---------------------------------------------------------------------------------------------------------------
@@ -244,6 +258,34 @@ fn unneeded(rng: &mut Rng, dirty: bool, value: i32) -> i32 {
         any(rng)
     } else {
         value
+    }
+}
+
+/// A reading in range, beside the power that it bounds often, or none.
+fn reading(rng: &mut Rng, nominal: i32, beside: i32) -> i32 {
+    match rng.below(10) {
+        0..=2 => i32::MAX,
+        3 => rng.pick(&[-LIMIT, 1 - LIMIT, -1, 0, 1, LIMIT - 1, LIMIT]) as i32,
+        4 | 5 => (i64::from(beside) + rng.range(-9, 3)).clamp(-LIMIT, LIMIT) as i32,
+        _ => power(rng, nominal),
+    }
+}
+
+/// A reading out of range, which none is not.
+fn wide_reading(rng: &mut Rng) -> i32 {
+    match rng.below(4) {
+        0 => rng.pick(&[i32::MIN, i32::MAX - 1]),
+        _ => wide_power(rng).min(i32::MAX - 1),
+    }
+}
+
+/// A reading that no rule needs.
+fn unneeded_reading(rng: &mut Rng, nominal: i32) -> i32 {
+    match rng.below(5) {
+        0 => 0,
+        1 => wide_reading(rng),
+        2 => any(rng),
+        _ => reading(rng, nominal, nominal),
     }
 }
 
@@ -305,6 +347,31 @@ fn dated(rng: &mut Rng, count: usize) -> u32 {
         _ => edge + 96 * rng.range(-3, 30) + time,
     };
     first.clamp(1, latest) as u32
+}
+
+/// The first quarter of a measure of so many, on request 3's date or beside it.
+fn october(rng: &mut Rng, count: usize) -> u32 {
+    let first = OCTOBER as i64;
+    let chosen = match rng.below(12) {
+        0..=3 => first,
+        4 | 5 => first - 1,
+        6 => first + 1,
+        7 => first + rng.range(2, 3_000),
+        // Over it, or up to it.
+        8 | 9 => first - rng.range(1, count.max(1) as i64),
+        10 => first - rng.range(1, 96),
+        _ => first - rng.range(96, 3_000),
+    };
+    chosen as u32
+}
+
+/// The first quarter of a measure of so many that request 3's rules judge.
+fn since_october(rng: &mut Rng, count: usize) -> u32 {
+    match rng.below(4) {
+        0 => OCTOBER as u32,
+        1 => rng.range(OCTOBER as i64, OCTOBER as i64 + 300) as u32,
+        _ => dated(rng, count).max(OCTOBER as u32),
+    }
 }
 
 /// The first quarter of a measure of so many, the first or only the last of them behind the calendar's end.
@@ -578,7 +645,16 @@ fn tested(pairing: Pairing, plant: &Plant, before: &[Before], weather: bool) -> 
     positions
 }
 
-fn quarter(rng: &mut Rng, plant: &Plant, pairing: Pairing, execution: u8, dated: bool, dirty: bool) -> Quarter {
+/// A quarter of a measure with this first one, whose reference is `carried` in Pauschal.
+fn quarter(
+    rng: &mut Rng,
+    plant: &Plant,
+    pairing: Pairing,
+    execution: u8,
+    first: u32,
+    carried: i32,
+    dirty: bool,
+) -> Quarter {
     let month = if rng.chance(50) { rng.pick(&[2, 3, 10, 11]) } else { rng.range(1, 12) as u8 };
     let time = if rng.chance(60) {
         rng.pick(&[0, 23, 24, 35, 36, 39, 40, 55, 56, 59, 60, 66, 67, 68, 75, 76, 95])
@@ -592,8 +668,10 @@ fn quarter(rng: &mut Rng, plant: &Plant, pairing: Pairing, execution: u8, dated:
         limit: power(rng, plant.nominal),
         weather: 0,
         planned: power(rng, plant.nominal),
+        nonavailable: 0,
+        adjusted: 0,
     };
-    if (pairing != Pairing::SolarPauschal || dated) && dirty && rng.chance(70) {
+    if (pairing != Pairing::SolarPauschal || first != 0) && dirty && rng.chance(70) {
         let (month, time) = (rng.word() as u8, rng.word() as u8);
         made.month = rng.pick(&[0, 13, 255, month, month]);
         made.time = rng.pick(&[96, 255, time, time]);
@@ -609,6 +687,16 @@ fn quarter(rng: &mut Rng, plant: &Plant, pairing: Pairing, execution: u8, dated:
     if pairing != Pairing::OtherSpitz {
         made.planned = unneeded(rng, dirty, made.planned);
     }
+    let since = has_readings(pairing) && u64::from(first) >= OCTOBER;
+    let mut one = |needed: bool| {
+        if needed {
+            let beside = rng.pick(&[carried, made.measured, made.limit]);
+            reading(rng, plant.nominal, beside)
+        } else {
+            unneeded_reading(rng, plant.nominal)
+        }
+    };
+    (made.nonavailable, made.adjusted) = (one(since), one(since && pairing == Pairing::WindPauschal));
     made
 }
 
@@ -731,16 +819,34 @@ fn make_measure(
     if faults.contains(&NoQuarter) {
         count = 0;
     }
-    if faults.contains(&Late) {
-        measure.first = late(rng, count);
-    } else if rng.chance(45) {
-        measure.first = dated(rng, count);
-    }
-    let dated = measure.first != 0;
-    measure.quarters = (0..count).map(|_| quarter(rng, plant, pairing, execution, dated, dirty)).collect();
+    measure.first = if faults.contains(&Late) {
+        late(rng, count)
+    } else if READINGS.iter().any(|fault| faults.contains(fault)) {
+        since_october(rng, count)
+    } else if has_readings(pairing) && rng.chance(50) {
+        october(rng, count)
+    } else {
+        match rng.below(100) {
+            0..=3 => october(rng, count),
+            4..=45 => dated(rng, count),
+            _ => 0,
+        }
+    };
+    let first = measure.first;
+    let carried = measure.before.iter().find(|one| one.mark == 1).map_or(0, |one| one.measured);
+    measure.quarters = (0..count).map(|_| quarter(rng, plant, pairing, execution, first, carried, dirty)).collect();
+    let broken = |rng: &mut Rng| if rng.chance(40) { count - 1 } else { rng.below(count) };
     if faults.contains(&QuarterField) && count > 0 {
-        let at = if rng.chance(40) { count - 1 } else { rng.below(count) };
-        break_quarter(rng, &mut measure.quarters[at], pairing, execution, dated);
+        let at = broken(rng);
+        break_quarter(rng, &mut measure.quarters[at], pairing, execution, first != 0);
+    }
+    if faults.contains(&Nonavailable) && count > 0 {
+        let at = broken(rng);
+        measure.quarters[at].nonavailable = wide_reading(rng);
+    }
+    if faults.contains(&Adjusted) && count > 0 {
+        let at = broken(rng);
+        measure.quarters[at].adjusted = wide_reading(rng);
     }
 
     if faults.contains(&Direction) {
@@ -953,15 +1059,26 @@ fn share(rng: &mut Rng, filed: &mut Filed) {
     }
 }
 
-/// Changes a few bytes, mostly in the parts that rules read.
+/// Changes a few bytes, mostly in the parts that rules read, and readings of quarters.
 fn mutate(rng: &mut Rng, bytes: &mut [u8]) {
     if bytes.is_empty() {
         return;
     }
     for _ in 0..1 + rng.below(6) {
         let mut at = rng.below(bytes.len());
+        let start = at / RECORD * RECORD;
+        if bytes[start] == QUARTER && start + RECORD <= bytes.len() && rng.chance(25) {
+            let value = match rng.below(3) {
+                0 => wide_reading(rng),
+                _ => reading(rng, 1_000_000, 0),
+            };
+            let place = start + rng.pick(&[NONAVAILABLE, ADJUSTED]);
+            bytes[place..place + 4].copy_from_slice(&value.to_le_bytes());
+            continue;
+        }
         if rng.chance(75) {
-            at = at / RECORD * RECORD + rng.below(24);
+            let read = if bytes[start] == QUARTER { RECORD } else { 24 };
+            at = start + rng.below(read);
         }
         let at = at.min(bytes.len() - 1);
         bytes[at] = match rng.below(5) {
@@ -997,9 +1114,13 @@ fn soup(rng: &mut Rng) -> Vec<u8> {
             };
             record[at..at + 4].copy_from_slice(&(to as u32).to_le_bytes());
         }
-        for at in [16, 20] {
-            let value = rng.pick(&[0, 1, 30, 500, 100_000, 1_000_000, 1_000_000_000, -1, 1_000_000_001]);
+        for at in [16, 20, 24, 28] {
+            let value = rng.pick(&[0, 1, 30, 500, 100_000, 1_000_000, 1_000_000_000, -1, 1_000_000_001, i32::MAX]);
             record[at..at + 4].copy_from_slice(&i32::to_le_bytes(value));
+        }
+        if record[0] == MEASURE && rng.chance(50) {
+            let date = rng.pick(&[0, OCTOBER as u32 - 1, OCTOBER as u32, LAST.0 as u32]);
+            record[DATE..DATE + 4].copy_from_slice(&date.to_le_bytes());
         }
     }
     bytes[..4].copy_from_slice(b"AARB");
@@ -1046,8 +1167,9 @@ fn choose_faults(rng: &mut Rng, pairing: Pairing, count: usize) -> Vec<Fault> {
     } else if pair < 80 {
         faults.push(Late);
     }
+    let readings: Vec<Fault> = READINGS.iter().copied().filter(fit).collect();
     while faults.len() < count {
-        let fault = rng.pick(&all);
+        let fault = if !readings.is_empty() && rng.chance(15) { rng.pick(&readings) } else { rng.pick(&all) };
         // Chains over their limit are long, so one in three of them is enough.
         if (fault == ManyQuarters && rng.chance(66)) || (fault == Late && faults.contains(&Late)) {
             continue;
@@ -1088,6 +1210,7 @@ fn extreme(rng: &mut Rng) -> (Plant, Pairing) {
         limit: -most,
         weather: if pairing == Pairing::WindSpitz { 100 } else { 2_000 },
         planned: most,
+        ..Quarter::default()
     };
     let mut quarters = vec![quarter; count];
     for quarter in &mut quarters {
@@ -1102,7 +1225,7 @@ fn extreme(rng: &mut Rng) -> (Plant, Pairing) {
 
 /// A chain as long as an archive can hold, or an archive as long as allowed.
 fn longest(rng: &mut Rng) -> Filed {
-    let quarter = Quarter { month: 6, time: 40, measured: 5, limit: 5, weather: 5, planned: 7 };
+    let quarter = Quarter { month: 6, time: 40, measured: 5, limit: 5, weather: 5, planned: 7, ..Quarter::default() };
     let fill = if rng.chance(50) { MOST_RECORDS - 3 } else { rng.range(1, 40) as usize };
     let measure = Measure { direction: 2, execution: 2, first: 0, before: Vec::new(), quarters: vec![quarter; fill] };
     let plant = Plant { technology: 3, variant: 1, nominal: 100_000, curve: Vec::new(), measures: vec![measure] };
@@ -2187,7 +2310,7 @@ fn lattice(rng: &mut Rng) -> Vec<u8> {
 
 /// So many plants, all with the same so many measures, all with the same so many quarters.
 pub fn shared(plants: usize, measures: usize, quarters: usize, planned: i32, rng: &mut Rng) -> Vec<u8> {
-    let quarter = Quarter { month: 6, time: 40, measured: 0, limit: 0, weather: 0, planned };
+    let quarter = Quarter { month: 6, time: 40, planned, ..Quarter::default() };
     let own = Measure { direction: 2, execution: 2, first: 0, before: Vec::new(), quarters: Vec::new() };
     let plant = Plant { technology: 3, variant: 1, nominal: 100_000, curve: Vec::new(), measures: Vec::new() };
     let mut sheet = vec![plant; plants];
@@ -2250,7 +2373,9 @@ pub fn input(seed: u64, index: u64) -> Vec<u8> {
     if rng.chance(2) {
         // A measure of 1,500 quarters or more, as many as the input's limit allows.
         if let Some(measure) = plants.iter_mut().flat_map(|plant| &mut plant.measures).next() {
-            let one = Quarter { month: 7, time: 40, measured: 11, limit: 5, weather: 30, planned: 77 };
+            let (nonavailable, adjusted) = rng.pick(&[(0, 0), (i32::MAX, 50), (60, i32::MAX)]);
+            let (measured, limit, weather, planned) = (11, 5, 30, 77);
+            let one = Quarter { month: 7, time: 40, measured, limit, weather, planned, nonavailable, adjusted };
             measure.quarters = vec![one; rng.range(1_500, 1_700) as usize];
         }
     }

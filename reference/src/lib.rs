@@ -1,9 +1,10 @@
-//! Settlement of curtailed energy: a reference written from document 01, requests 1 and 2 and the decisions on them
+//! Settlement of curtailed energy: a reference written from document 01, requests 1 to 3 and the decisions on them
 //! alone.
 //!
 //! The plain modules follow the paper sentence by sentence: `archive` ("The archive"), `settle` ("From readings to
-//! exact fractions" and settle), `calendar` (request 1's dates and delivery day), `filing` (fresh, append, show, and
-//! request 2's taking back), `audit` and `program`. They keep S and R as exact sums and round those.
+//! exact fractions" and settle, with request 3's rules of October 2026), `calendar` (request 1's dates and delivery
+//! day), `filing` (fresh, append, show, and request 2's taking back), `audit` and `program`. They keep S and R as exact
+//! sums and round those.
 //! `fast` does the same calls with speed in mind. `builder` and `generate` make inputs, `slips` holds likely wrong
 //! readings, so that the inputs can be shown to tell them apart.
 

@@ -1,4 +1,5 @@
-//! Document 01, "From readings to exact fractions" and settle in "Calls on the archive"; request 1's dated measures.
+//! Document 01, "From readings to exact fractions" and settle in "Calls on the archive"; request 1's dated measures and
+//! request 3's rules of October 2026.
 
 use crate::archive::*;
 use crate::calendar::{QuarterHour, LAST};
@@ -73,6 +74,11 @@ pub const CURVE_POWER: RangeInclusive<i128> = 0..=1_000_000_000;
 pub const SPEED: RangeInclusive<i128> = 0..=1_000;
 pub const IRRADIANCE: RangeInclusive<i128> = 0..=2_000;
 
+/// 1 October 2026, 00:00: the first quarter of the measures that request 3 is about is this one or a later one.
+pub const OCTOBER: u64 = 937_921;
+/// What a reading of request 3 holds that isn't there.
+pub const NONE: i128 = 2_147_483_647;
+
 /// Refusal 9 unless the value is in its range.
 fn within(value: i128, range: RangeInclusive<i128>) -> Result<(), Refusal> {
     if range.contains(&value) {
@@ -107,23 +113,40 @@ impl Pairing {
     }
 }
 
-/// Records of plant p and its measure k.
-fn sheet(archive: &[u8], p: u64, k: u64) -> Option<(&[u8], &[u8])> {
+/// Numbers of plant p and its measure k.
+fn sheet(archive: &[u8], p: u64, k: u64) -> Option<(u64, u64)> {
     let used = used(archive).ok()?;
     let plant = place(archive, used, 0, FIRST, PLANT, p, 4).ok()?;
     let measure = place(archive, used, plant, SECOND, MEASURE, k, 5).ok()?;
-    Some((record(archive, plant), record(archive, measure)))
+    Some((plant, measure))
 }
 
 /// Pairing, direction and execution of a measure.
 pub fn terms(archive: &[u8], p: u64, k: u64) -> Option<(Pairing, u8, u8)> {
     let (plant, measure) = sheet(archive, p, k)?;
+    let (plant, measure) = (record(archive, plant), record(archive, measure));
     Some((Pairing::of(plant[1], plant[2])?, measure[1], measure[2]))
 }
 
 /// A measure's first quarter, 0 if it is undated.
 pub fn first_quarter(archive: &[u8], p: u64, k: u64) -> Option<u64> {
-    sheet(archive, p, k).map(|(_, measure)| link(measure, DATE))
+    sheet(archive, p, k).map(|(_, measure)| link(record(archive, measure), DATE))
+}
+
+/// A measure's before-quarters.
+pub fn before_quarters(archive: &[u8], p: u64, k: u64) -> Option<Vec<&[u8]>> {
+    below(archive, p, k, FIRST, BEFORE)
+}
+
+/// A measure's quarters.
+pub fn quarters(archive: &[u8], p: u64, k: u64) -> Option<Vec<&[u8]>> {
+    below(archive, p, k, SECOND, QUARTER)
+}
+
+fn below(archive: &[u8], p: u64, k: u64, at: usize, kind: u8) -> Option<Vec<&[u8]>> {
+    let (_, measure) = sheet(archive, p, k)?;
+    let numbers = chain(archive, used(archive).ok()?, measure, at, kind).ok()?;
+    Some(numbers.iter().map(|&number| record(archive, number)).collect())
 }
 
 /// A fraction, its denominator above 0.
@@ -216,6 +239,22 @@ fn limitation(positive: bool, execution: u8, quarter: &[u8]) -> i128 {
     }
 }
 
+/// The places of request 3's readings that a measure's quarters need. Its first quarter decides for all of them; an
+/// undated measure has 0 there.
+pub fn reading_places(pairing: Pairing, first: u64) -> &'static [usize] {
+    match pairing {
+        _ if first < OCTOBER => &[],
+        Pairing::WindPauschal => &[NONAVAILABLE, ADJUSTED],
+        Pairing::OtherPauschal => &[NONAVAILABLE],
+        _ => &[],
+    }
+}
+
+/// The readings of a quarter that are there.
+fn readings<'a>(places: &'a [usize], quarter: &'a [u8]) -> impl Iterator<Item = i128> + 'a {
+    places.iter().map(move |&at| field(quarter, at)).filter(|&power| power != NONE)
+}
+
 /// Exact magnitude of one quarter.
 fn magnitude(positive: bool, reference: Fraction, limitation: i128) -> Fraction {
     let difference = reference.numerator - limitation * reference.denominator;
@@ -276,6 +315,7 @@ pub fn settled(archive: &[u8], p: u64, k: u64) -> Result<Settled, Refusal> {
     };
 
     // Quarters.
+    let places = reading_places(pairing, first);
     let numbers = chain(archive, used, measure_number, SECOND, QUARTER)?;
     links += numbers.len() as u64;
     if !(1..=2_976).contains(&numbers.len()) {
@@ -284,6 +324,9 @@ pub fn settled(archive: &[u8], p: u64, k: u64) -> Result<Settled, Refusal> {
     let quarters: Vec<&[u8]> = numbers.iter().map(|&number| record(archive, number)).collect();
     for quarter in &quarters {
         quarter_tested(pairing, execution, first != 0, quarter)?;
+        for power in readings(places, quarter) {
+            within(power, POWER)?;
+        }
     }
 
     // 18: the first or the last quarter past the calendar's last one.
@@ -295,8 +338,17 @@ pub fn settled(archive: &[u8], p: u64, k: u64) -> Result<Settled, Refusal> {
     let mut amounts = Vec::new();
     let mut r = 0i128;
     for (at, quarter) in quarters.iter().enumerate() {
-        let reference = reference_power(&reference, at as u64, quarter);
-        let exact = magnitude(positive, reference, limitation(positive, execution, quarter));
+        let mut t = reference_power(&reference, at as u64, quarter);
+        let mut l = limitation(positive, execution, quarter);
+        // The smallest of T and the readings, in the positive direction of L and the readings.
+        for power in readings(places, quarter) {
+            if positive {
+                l = l.min(power);
+            } else {
+                t.numerator = t.numerator.min(power * t.denominator);
+            }
+        }
+        let exact = magnitude(positive, t, l);
         let s = r + exact.numerator;
         let amount = s.div_euclid(exact.denominator) - r.div_euclid(exact.denominator);
         amounts.push(if positive { -amount } else { amount } as i64);

@@ -1,10 +1,10 @@
-//! Wrong readings of document 01 and of requests 1 and 2, one at a time. A generated call reaches a situation if the wrong
-//! reading gives another outcome there than the right one; an example on the pages shows it in the same way. With
+//! Wrong readings of document 01 and of requests 1 to 3, one at a time. A generated call reaches a situation if the
+//! wrong reading gives another outcome there than the right one; an example on the pages shows it in the same way. With
 //! `Slip::None` every call gives what the plain modules give.
 
 use crate::archive::*;
 use crate::calendar::{days_of_month, next_month, LAST};
-use crate::settle::{curve_power, Pairing, CURVE_POWER, IRRADIANCE, NOMINAL, POWER, SPEED};
+use crate::settle::{curve_power, Pairing, CURVE_POWER, IRRADIANCE, NOMINAL, NONE, OCTOBER, POWER, SPEED};
 
 /// Which call a slip belongs to.
 #[derive(Clone, Copy, Debug, PartialEq, Eq)]
@@ -112,6 +112,69 @@ slips! {
         EveryLeap Settle "1.9" "29 February in every year"
         NoLeap Settle "1.9" "29 February in no year"
         NoLeap2000 Settle "1.9" "no 29 February in 2000"
+        OctoberIgnored Settle "02, 3" "every measure judged by the 2020 text"
+        OctoberEarly Settle "02, 3" "rules of October 2026 from 937,920 on"
+        OctoberLate Settle "02, 3" "rules of October 2026 from 937,922 on"
+        OctoberOfQuarter Settle "3.3!" "each quarter judged by its own number"
+        OctoberOfLast Settle "3.3!" "a measure judged by its last quarter"
+        OctoberPastEnd Settle "3.4!" "a first quarter past 3,506,400 judged by the 2020 text"
+        OctoberSigned Settle "3.4!" "a first quarter of 2^31 or more judged by the 2020 text"
+        OlderTested Settle "02, 3" "readings of older measures tested"
+        OlderBounded Settle "02, 3" "readings of older measures used"
+        UndatedTested Settle "02, 3" "readings of undated measures tested"
+        UndatedBounded Settle "02, 3" "readings of undated measures used"
+        WindSpitzBounded Settle "3.2" "readings used in wind Spitz"
+        SolarSpitzBounded Settle "3.2" "readings used in solar Spitz"
+        SolarPauschalBounded Settle "3.2" "readings used in solar Pauschal"
+        OtherSpitzBounded Settle "3.2" "nonavailability used in other Spitz, negative"
+        OtherSpitzPositive Settle "3.2" "nonavailability used in other Spitz, positive"
+        SpitzTested Settle "3.2" "readings tested in wind and other Spitz"
+        SolarTested Settle "3.2" "readings tested in solar"
+        WindCapped Settle "3.1!" "wind Pauschal from October 2026 capped at Pn"
+        NonavailableCapped Settle "3.1!" "nonavailability capped at Pn"
+        NonavailableMissing Settle "02, 3" "nonavailability taken for the power that is missing from Pn"
+        WindNonavailableOnly Settle "02, 3" "market adjustment of wind not used"
+        WindAdjustedOnly Settle "02, 3" "nonavailability of wind not used"
+        WindNonavailableUntested Settle "3.5" "nonavailability of wind not tested"
+        WindAdjustedUntested Settle "3.5" "market adjustment of wind not tested"
+        OtherUnbounded Settle "02, 3" "nonavailability of other plants not used, negative"
+        OtherUntested Settle "3.5" "nonavailability of other plants not tested, negative"
+        PositiveUnbounded Settle "02, 3" "nonavailability of other plants not used, positive"
+        PositiveUntested Settle "3.5" "nonavailability of other plants not tested, positive"
+        OtherAdjusted Settle "02, 3" "market adjustment of other plants used, negative"
+        PositiveAdjusted Settle "02, 3" "market adjustment of other plants used, positive"
+        OtherAdjustedTested Settle "3.5" "market adjustment of other plants tested"
+        OtherExchanged Settle "02, 3" "market adjustment of other plants taken for nonavailability"
+        PositiveReference Settle "3.7" "reference bounded in place of L, positive"
+        NegativeLimitation Settle "02, 3" "L bounded in place of the reference, negative"
+        PositiveRequested Settle "3.7" "L bounded in execution 1 only"
+        RequestedReadings Settle "3.5" "readings tested and used in execution 1 only"
+        BoundLarger Settle "02, 3" "the largest in place of the smallest, negative"
+        PositiveBoundLarger Settle "02, 3" "the larger of L and nonavailability"
+        BoundReplaces Settle "02, 3" "a reading taken even where it isn't the smallest"
+        BoundsKept Settle "02, 3" "the first quarter's readings used in all"
+        ReadingRaised Settle "3.6" "a reading below 0 raised to 0"
+        BoundedRaised Settle "3.6" "the smallest below 0 raised to 0"
+        ReadingBelow Settle "3.6" "a reading below 0 refused"
+        ReadingUnsigned Settle "3.6" "readings taken for unsigned"
+        NoneRefused Settle "3.6" "a reading of 2,147,483,647 is 9"
+        NoneIsZero Settle "3.6" "none taken for a power of 0"
+        NoneOfTwo Settle "3.6" "with one reading of wind none the other isn't used either"
+        NoneNearby Settle "3.6" "2,147,483,646 taken for none"
+        NoneLowest Settle "3.6" "-2,147,483,648 taken for none"
+        NoneMinusOne Settle "3.6" "-1 taken for none"
+        NoneZero Settle "3.6" "0 taken for none"
+        NoneNegative Settle "3.6" "a reading below 0 taken for none"
+        NoneWide Settle "3.5" "a reading out of range taken for none"
+        SmallestTested Settle "3.5" "a reading tested only where it is the smallest"
+        ReadingHighEdge Settle "02, 3" "a reading of 1,000,000,000 refused"
+        ReadingHighMore Settle "02, 3" "a reading of 1,000,000,001 accepted"
+        ReadingLowEdge Settle "02, 3" "a reading of -1,000,000,000 refused"
+        ReadingLowMore Settle "02, 3" "a reading of -1,000,000,001 accepted"
+        BothSidesSince Settle "3.8" "execution 3 treated as 1 from October 2026 on"
+        ReadingsBehindLate Settle "3.4!" "18 before the readings' 9"
+        ReadingsBehindList Settle "02, 3" "13 before the readings' 9"
+        ReadingsBeforeEight Settle "02, 3" "the readings' 9 before the quarters' 8"
         FullBeforeWalk Append "55!" "16 before 2 and 3"
         FullBeforeOwner Append "55!" "16 before 15"
         ReachedOwner Append "56!" "owner must be on a chain"
@@ -822,6 +885,155 @@ fn slipped_time(slip: Slip, number: u64) -> (u8, u8) {
     }
 }
 
+/// The readings of request 3 in a measure's quarters, as one slip sees them: nonavailability, then market adjustment.
+struct Readings {
+    slip: Slip,
+    pairing: Pairing,
+    positive: bool,
+    execution: u8,
+    nominal: i128,
+    date: u64,
+    count: u64,
+}
+
+impl Readings {
+    /// Whether quarter `at` is judged by the rules of October 2026.
+    fn october(&self, at: usize) -> bool {
+        let from = match self.slip {
+            Slip::OctoberEarly => OCTOBER - 1,
+            Slip::OctoberLate => OCTOBER + 1,
+            _ => OCTOBER,
+        };
+        let number = match self.slip {
+            Slip::OctoberOfQuarter if self.date != 0 => self.date + at as u64,
+            Slip::OctoberOfLast if self.date != 0 => self.date + self.count - 1,
+            Slip::OctoberIgnored => 0,
+            Slip::OctoberPastEnd if self.date > LAST.0 => 0,
+            Slip::OctoberSigned if self.date >= 1 << 31 => 0,
+            _ => self.date,
+        };
+        number >= from
+    }
+
+    /// Which ones the pairing has from October 2026 on.
+    fn own(&self) -> [bool; 2] {
+        [matches!(self.pairing, Pairing::WindPauschal | Pairing::OtherPauschal), self.pairing == Pairing::WindPauschal]
+    }
+
+    fn tested(&self, at: usize) -> [bool; 2] {
+        let (october, wind) = (self.october(at), self.pairing == Pairing::WindPauschal);
+        match self.slip {
+            Slip::OlderTested if self.date != 0 => self.own(),
+            Slip::UndatedTested if self.date == 0 => self.own(),
+            _ if !october => [false; 2],
+            Slip::SpitzTested if self.pairing == Pairing::WindSpitz => [true; 2],
+            Slip::SpitzTested if self.pairing == Pairing::OtherSpitz => [true, false],
+            Slip::SolarTested if matches!(self.pairing, Pairing::SolarSpitz | Pairing::SolarPauschal) => [true; 2],
+            Slip::RequestedReadings if self.execution != 1 => [false; 2],
+            Slip::WindNonavailableUntested if wind => [false, true],
+            Slip::WindAdjustedUntested if wind => [true, false],
+            Slip::OtherUntested if !wind && !self.positive => [false; 2],
+            Slip::PositiveUntested if self.positive => [false; 2],
+            Slip::OtherAdjustedTested if self.pairing == Pairing::OtherPauschal => [true; 2],
+            _ => self.own(),
+        }
+    }
+
+    fn used(&self, at: usize) -> [bool; 2] {
+        let (october, other) = (self.october(at), self.pairing == Pairing::OtherPauschal);
+        match self.slip {
+            Slip::OlderBounded if self.date != 0 => self.own(),
+            Slip::UndatedBounded if self.date == 0 => self.own(),
+            _ if !october => [false; 2],
+            Slip::WindSpitzBounded if self.pairing == Pairing::WindSpitz => [true; 2],
+            Slip::SolarSpitzBounded if self.pairing == Pairing::SolarSpitz => [true; 2],
+            Slip::SolarPauschalBounded if self.pairing == Pairing::SolarPauschal => [true; 2],
+            Slip::OtherSpitzBounded if self.pairing == Pairing::OtherSpitz && !self.positive => [true, false],
+            Slip::OtherSpitzPositive if self.pairing == Pairing::OtherSpitz && self.positive => [true, false],
+            Slip::RequestedReadings if self.execution != 1 => [false; 2],
+            Slip::PositiveRequested if self.positive && self.execution != 1 => [false; 2],
+            Slip::WindNonavailableOnly if !other => [self.own()[0], false],
+            Slip::WindAdjustedOnly if !other => [false, self.own()[1]],
+            Slip::OtherUnbounded if other && !self.positive => [false; 2],
+            Slip::PositiveUnbounded if other && self.positive => [false; 2],
+            Slip::OtherAdjusted if other && !self.positive => [true; 2],
+            Slip::PositiveAdjusted if other && self.positive => [true; 2],
+            _ => self.own(),
+        }
+    }
+
+    /// A quarter's readings that are there among those wanted, each with its place among the two.
+    fn present(&self, reader: &Reader, quarter: &[u8], wanted: [bool; 2]) -> Vec<(usize, i128)> {
+        if wanted == [false; 2] {
+            return Vec::new();
+        }
+        let places = match self.slip {
+            Slip::OtherExchanged if self.pairing == Pairing::OtherPauschal => [ADJUSTED, NONAVAILABLE],
+            _ => [NONAVAILABLE, ADJUSTED],
+        };
+        let read = |at: usize| match self.slip {
+            Slip::ReadingUnsigned => i128::from(link(quarter, at)),
+            _ => reader.field(quarter, at),
+        };
+        let none = |power: i128| match self.slip {
+            Slip::NoneRefused | Slip::NoneIsZero => false,
+            Slip::NoneNearby => power == NONE || power == NONE - 1,
+            Slip::NoneLowest => power == NONE || power == i128::from(i32::MIN),
+            Slip::NoneMinusOne => power == NONE || power == -1,
+            Slip::NoneZero => power == NONE || power == 0,
+            Slip::NoneNegative => power == NONE || power < 0,
+            Slip::NoneWide => !POWER.contains(&power),
+            _ => power == NONE,
+        };
+        let all = (0..2).filter(|&at| wanted[at]).map(|at| (at, read(places[at])));
+        all.filter(|&(_, power)| !none(power)).collect()
+    }
+
+    /// The range of a reading.
+    fn allowed(&self, reader: &Reader, power: i128) -> bool {
+        match self.slip {
+            Slip::NoneIsZero if power == NONE => true,
+            Slip::ReadingBelow if power < 0 => false,
+            Slip::ReadingHighEdge => power != *POWER.end() && reader.power(power),
+            Slip::ReadingHighMore => power == *POWER.end() + 1 || reader.power(power),
+            Slip::ReadingLowEdge => power != *POWER.start() && reader.power(power),
+            Slip::ReadingLowMore => power == *POWER.start() - 1 || reader.power(power),
+            _ => reader.power(power),
+        }
+    }
+
+    /// T, over this denominator, and L as the readings of a quarter bound them.
+    fn bounded(&self, present: &[(usize, i128)], t: i128, l: i128, under: i128) -> (i128, i128) {
+        let as_used = |&(at, power): &(usize, i128)| match self.slip {
+            Slip::NonavailableCapped if at == 0 => power.min(self.nominal),
+            Slip::NonavailableMissing if at == 0 => self.nominal - power,
+            Slip::ReadingRaised => power.max(0),
+            Slip::NoneIsZero if power == NONE => 0,
+            _ => power,
+        };
+        let mut used: Vec<i128> = present.iter().map(as_used).collect();
+        if self.slip == Slip::NoneOfTwo && self.pairing == Pairing::WindPauschal && used.len() < 2 {
+            used.clear();
+        }
+        let (least, most) = match (used.iter().min(), used.iter().max()) {
+            (Some(&least), Some(&most)) => (least, most),
+            _ => return (t, l),
+        };
+        match (self.slip, self.positive) {
+            (Slip::PositiveReference, true) => (t.min(least * under), l),
+            (Slip::NegativeLimitation, false) => (t, l.min(least)),
+            (Slip::BoundLarger, false) => (t.max(most * under), l),
+            (Slip::PositiveBoundLarger, true) => (t, l.max(most)),
+            (Slip::BoundReplaces, false) => (least * under, l),
+            (Slip::BoundReplaces, true) => (t, least),
+            (Slip::BoundedRaised, false) => (t.min(least * under).max(0), l),
+            (Slip::BoundedRaised, true) => (t, l.min(least).max(0)),
+            (_, false) => (t.min(least * under), l),
+            (_, true) => (t, l.min(least)),
+        }
+    }
+}
+
 /// What a wrong program hands from measure to measure: a remainder over its denominator.
 type Carry = (i128, i128);
 
@@ -1143,11 +1355,30 @@ fn settle(
         Slip::QuartersLess => 2_975,
         _ => 2_976,
     };
+    let readings = Readings { slip, pairing, positive, execution, nominal, date, count: numbers.len() as u64 };
     let eighteen = late(slip, pairing, date, numbers.len() as u64);
     if is(Slip::LateBeforeEight) {
         eighteen?;
     }
     let eight = test((fewest..=most_quarters).contains(&numbers.len()), 8);
+    let quarters: Vec<&[u8]> = numbers.iter().map(|&number| record(archive, number)).collect();
+    let tested = if is(Slip::FirstQuarterOnly) { quarters.len().min(1) } else { quarters.len() };
+    let readings_nine = quarters[..tested].iter().enumerate().try_for_each(|(at, one)| {
+        let mut found = readings.present(&reader, one, readings.tested(at));
+        if is(Slip::SmallestTested) {
+            let measured = reader.field(one, 8);
+            let compared = match (positive, execution) {
+                (false, _) => a,
+                (true, 1) => measured.min(reader.field(one, 12)),
+                (true, _) => measured,
+            };
+            found.retain(|&(_, power)| power < compared);
+        }
+        test(found.iter().all(|&(_, power)| readings.allowed(&reader, power)), 9)
+    });
+    if is(Slip::ReadingsBeforeEight) {
+        readings_nine?;
+    }
     if !is(Slip::QuarterNineFirst) {
         eight?;
     }
@@ -1158,8 +1389,6 @@ fn settle(
     if is(Slip::ListFirst) {
         test(places >= numbers.len(), 13)?;
     }
-    let quarters: Vec<&[u8]> = numbers.iter().map(|&number| record(archive, number)).collect();
-    let tested = if is(Slip::FirstQuarterOnly) { quarters.len().min(1) } else { quarters.len() };
     let moment = |at: usize| match slip {
         Slip::DateKept => slipped_time(slip, date),
         Slip::MonthKept => (slipped_time(slip, date).0, slipped_time(slip, date + at as u64).1),
@@ -1201,10 +1430,16 @@ fn settle(
         let agrees = || pairing != Pairing::SolarPauschal || moment(at) == (one[1], one[2]);
         test(!is(Slip::BytesAgree) || date == 0 || agrees(), 9)?;
     }
+    if !is(Slip::ReadingsBehindLate) && !is(Slip::ReadingsBehindList) {
+        readings_nine?;
+    }
     eight?;
     twelve?;
     if !is(Slip::LateBehindList) {
         eighteen?;
+    }
+    if !is(Slip::ReadingsBehindList) {
+        readings_nine?;
     }
 
     // Amounts.
@@ -1235,7 +1470,7 @@ fn settle(
         let requested = match execution {
             1 => true,
             2 => is(Slip::ToleratedRequested),
-            _ => is(Slip::BothSidesRequested),
+            _ => is(Slip::BothSidesRequested) || (is(Slip::BothSidesSince) && date >= OCTOBER),
         };
         let larger = match slip {
             Slip::PositiveLarger => true,
@@ -1280,6 +1515,11 @@ fn settle(
             _ if is(Slip::RaisedPauschal) => a.max(0),
             _ => a,
         };
+        if is(Slip::WindCapped) && pairing == Pairing::WindPauschal && readings.october(at) {
+            t = t.min(nominal);
+        }
+        let holder = if is(Slip::BoundsKept) { quarters[0] } else { one };
+        (t, l) = readings.bounded(&readings.present(&reader, holder, readings.used(at)), t, l, under);
         if is(Slip::FloorT) {
             t = t.max(0);
         }
@@ -1329,6 +1569,7 @@ fn settle(
     }
     test(result.len() == 24 || (is(Slip::ResultLonger) && result.len() > 24), 13)?;
     eighteen?;
+    readings_nine?;
     write(list);
     if is(Slip::LaterZeroed) {
         list[8 * amounts.len()..].fill(0);

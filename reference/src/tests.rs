@@ -1,5 +1,5 @@
-//! Document 01's own figures and examples, request 1's dates, request 2's taking back, `fast` and the slips against the
-//! plain modules, and read-back.
+//! Document 01's own figures and examples, request 1's dates, request 2's taking back, request 3's readings, `fast` and
+//! the slips against the plain modules, and read-back.
 
 use crate::archive::{link, record, used, FIRST, NEXT, RECORD, SECOND};
 use crate::builder::*;
@@ -27,7 +27,7 @@ fn before(measured: i32, weather: i32) -> Before {
 }
 
 fn quarter(measured: i32) -> Quarter {
-    Quarter { month: 7, time: 40, measured, limit: measured, weather: 0, planned: 0 }
+    Quarter { month: 7, time: 40, measured, limit: measured, ..Quarter::default() }
 }
 
 fn point(speed: i32, power: i32) -> Point {
@@ -443,6 +443,222 @@ fn late_dates() {
         // A dated measure's own 13.
         let filed = archive(&[dated(937_921)]);
         assert_eq!(settle(&filed.bytes, 1, 1, &mut [0]).number, 13);
+    }
+}
+
+/// A reading of request 3 that isn't there.
+const NONE: i32 = i32::MAX;
+/// Readings out of range: beside its ends, beside none, and the lowest.
+const WIDE: [i32; 4] = [1_000_000_001, -1_000_000_001, i32::MAX - 1, i32::MIN];
+
+/// Pauschal with reference 800,000 and Pn 1,000,000, tolerated and negative, from a quarter on.
+fn pauschal(technology: u8, first: u32, quarters: Vec<Quarter>) -> Plant {
+    let own = Measure { first, ..measure(2, 2, vec![before(800_000, 0)], quarters) };
+    plant(technology, 2, 1_000_000, vec![], vec![own])
+}
+
+/// A quarter with its readings.
+fn reading(measured: i32, nonavailable: i32, adjusted: i32) -> Quarter {
+    Quarter { nonavailable, adjusted, ..quarter(measured) }
+}
+
+/// The amount of one quarter of wind Pauschal from 1 October 2026 on.
+fn wind_in_october(measured: i32, nonavailable: i32, adjusted: i32) -> Result<i64, u32> {
+    amounts(pauschal(1, 937_921, vec![reading(measured, nonavailable, adjusted)])).map(|list| list[0])
+}
+
+#[test]
+fn october_wind() {
+    // No reading: 500,000 / 4.
+    assert_eq!(wind_in_october(300_000, NONE, NONE), Ok(125_000));
+    // One of them, both, and the reference each the smallest once.
+    assert_eq!(wind_in_october(300_000, 600_000, NONE), Ok(75_000));
+    assert_eq!(wind_in_october(300_000, NONE, 500_000), Ok(50_000));
+    assert_eq!(wind_in_october(300_000, 500_000, 600_000), Ok(50_000));
+    assert_eq!(wind_in_october(300_000, 600_000, 500_000), Ok(50_000));
+    assert_eq!(wind_in_october(300_000, 850_000, 900_000), Ok(125_000));
+    assert_eq!(wind_in_october(300_000, 299_999, NONE), Ok(0));
+    // 0 is a power; T may be below 0 and isn't raised.
+    assert_eq!(wind_in_october(-200_000, 0, NONE), Ok(50_000));
+    assert_eq!(wind_in_october(-200_000, NONE, -100_000), Ok(25_000));
+    assert_eq!(wind_in_october(-200_000, -1, -200_000), Ok(0));
+    assert_eq!(wind_in_october(-1_000_000_000, -1_000_000_000, 1_000_000_000), Ok(0));
+    assert_eq!(wind_in_october(-1_000_000_000, 1_000_000_000, -999_999_996), Ok(1));
+    // No cap at Pn: reference 1,500,000 and readings above 1,000,000.
+    for (nonavailable, adjusted, amount) in
+        [(NONE, NONE, 300_000), (1_200_000, NONE, 225_000), (1_300_000, 1_100_000, 200_000)]
+    {
+        let mut sheet = pauschal(1, 937_921, vec![reading(300_000, nonavailable, adjusted)]);
+        sheet.measures[0].before[0].measured = 1_500_000;
+        assert_eq!(amounts(sheet), Ok(vec![amount]));
+    }
+    // Case a with a reading of 799,999 in its second quarter: 74,999.75, 149,999.25 and 224,998.75 in all.
+    let own = |measured, nonavailable| reading(measured, nonavailable, NONE);
+    let quarters = vec![own(500_001, NONE), own(500_001, 799_999), own(500_002, NONE)];
+    for technology in [1, 3] {
+        assert_eq!(amounts(pauschal(technology, 937_921, quarters.clone())), Ok(vec![74_999, 75_000, 74_999]));
+    }
+}
+
+#[test]
+fn october_other() {
+    let one = |direction, execution, reference, own: Quarter| {
+        let mut sheet = pauschal(3, 937_921, vec![own]);
+        sheet.measures[0] = Measure { direction, execution, ..sheet.measures[0].clone() };
+        sheet.measures[0].before[0].measured = reference;
+        amounts(sheet).map(|list| list[0])
+    };
+    // Whatever stands in bytes 28-31.
+    for adjusted in [NONE, 0, 450_000, -1_000_000_000, WIDE[0], WIDE[1], WIDE[2], WIDE[3]] {
+        // Negative: L is the larger of measured power and limit in execution 1, else the measured power.
+        let negative = |execution, nonavailable| {
+            one(2, execution, 800_000, Quarter { limit: 400_000, ..reading(300_000, nonavailable, adjusted) })
+        };
+        for (nonavailable, requested, else_amount) in
+            [(NONE, 100_000, 125_000), (600_000, 50_000, 75_000), (800_001, 100_000, 125_000), (350_000, 0, 12_500)]
+        {
+            assert_eq!(negative(1, nonavailable), Ok(requested));
+            assert_eq!(negative(2, nonavailable), Ok(else_amount));
+            assert_eq!(negative(3, nonavailable), Ok(else_amount));
+        }
+        // Figure e, where L is 600,000, and the same with L 700,000.
+        let positive = |execution, nonavailable| {
+            one(1, execution, 500_000, Quarter { limit: 600_000, ..reading(700_000, nonavailable, adjusted) })
+        };
+        for (nonavailable, requested, else_amount) in [
+            (NONE, -25_000, -50_000),
+            (560_000, -15_000, -15_000),
+            (650_000, -25_000, -37_500),
+            (700_001, -25_000, -50_000),
+            (500_000, 0, 0),
+            (400_000, 0, 0),
+        ] {
+            assert_eq!(positive(1, nonavailable), Ok(requested));
+            assert_eq!(positive(2, nonavailable), Ok(else_amount));
+            assert_eq!(positive(3, nonavailable), Ok(else_amount));
+        }
+        // Below 0: reference -100,000, L 50,000 without the reading of -60,000.
+        assert_eq!(one(1, 2, -100_000, reading(50_000, NONE, adjusted)), Ok(-37_500));
+        assert_eq!(one(1, 2, -100_000, reading(50_000, -60_000, adjusted)), Ok(-10_000));
+        assert_eq!(one(2, 2, 100_000, reading(-60_000, -20_000, adjusted)), Ok(10_000));
+    }
+}
+
+/// The measure's first quarter decides for all its quarters.
+#[test]
+fn october_edges() {
+    let all = |technology, first, count| {
+        amounts(pauschal(technology, first, vec![reading(300_000, 500_000, NONE); count])).unwrap()
+    };
+    for technology in [1, 3] {
+        for (first, amount) in [(0, 125_000), (1, 125_000), (937_919, 125_000), (937_920, 125_000)] {
+            assert_eq!(all(technology, first, 1), [amount]);
+            // Running past the date too.
+            assert_eq!(all(technology, first, 20), [amount; 20]);
+        }
+        for first in [937_921, 937_922, LAST.0 as u32 - 19] {
+            assert_eq!(all(technology, first, 20), [50_000; 20]);
+        }
+        assert_eq!(all(technology, LAST.0 as u32, 1), [50_000]);
+    }
+    // Spitz and solar keep their rules.
+    for right in [0, 2, 3, 4].map(|at| six()[at].clone()) {
+        let dated = |own: Quarter| {
+            let mut plant = right.clone();
+            plant.measures[0].first = 937_921 + 40;
+            for quarter in &mut plant.measures[0].quarters {
+                let Quarter { nonavailable, adjusted, .. } = own;
+                *quarter = Quarter { planned: 900_000, nonavailable, adjusted, ..*quarter };
+            }
+            amounts(plant)
+        };
+        let found = dated(reading(0, NONE, NONE));
+        assert!(found.as_ref().unwrap().iter().all(|&amount| amount > 0));
+        for (nonavailable, adjusted) in [(0, 0), (-5, WIDE[0]), (WIDE[1], NONE), (WIDE[2], WIDE[3])] {
+            assert_eq!(dated(reading(0, nonavailable, adjusted)), found);
+        }
+    }
+}
+
+/// 9 for readings out of range, whether or not they are the smallest, in its old place.
+#[test]
+fn october_refusals() {
+    let with = |technology, direction, execution, first, last: Quarter| {
+        let mut sheet = pauschal(technology, first, vec![reading(300_000, NONE, NONE), last]);
+        sheet.measures[0] = Measure { direction, execution, ..sheet.measures[0].clone() };
+        amounts(sheet)
+    };
+    let last = LAST.0 as u32;
+    for wide in WIDE {
+        let (first, second) = (reading(300_000, wide, NONE), reading(300_000, NONE, wide));
+        for execution in 1..=3 {
+            for date in [937_921, 937_922, last - 1] {
+                assert_eq!(with(1, 2, execution, date, first), Err(9));
+                assert_eq!(with(1, 2, execution, date, second), Err(9));
+                for direction in [1, 2] {
+                    assert_eq!(with(3, direction, execution, date, first), Err(9));
+                    assert!(with(3, direction, execution, date, second).is_ok());
+                }
+            }
+            // Undated and older measures don't read them.
+            for date in [0, 1, 937_920] {
+                for (technology, direction) in [(1, 2), (3, 1), (3, 2)] {
+                    for own in [first, second] {
+                        let found = with(technology, direction, execution, date, own);
+                        assert_eq!(found, with(technology, direction, execution, date, reading(300_000, 5, 5)));
+                    }
+                }
+            }
+            // 9 stands before 18, in a late first quarter too; the market adjustment of other plants doesn't.
+            for date in [last, last + 1, 1 << 31, u32::MAX] {
+                assert_eq!(with(1, 2, execution, date, first), Err(9));
+                assert_eq!(with(1, 2, execution, date, second), Err(9));
+                assert_eq!(with(3, 1, execution, date, first), Err(9));
+                assert_eq!(with(3, 2, execution, date, second), Err(18));
+                assert_eq!(with(1, 2, execution, date, reading(300_000, NONE, NONE)), Err(18));
+            }
+        }
+    }
+    // The ends of the range.
+    for edge in [-1_000_000_000, 1_000_000_000] {
+        for (technology, direction) in [(1, 2), (3, 1), (3, 2)] {
+            assert!(with(technology, direction, 1, 937_921, reading(300_000, edge, edge)).is_ok());
+        }
+    }
+    // 8 stands before it, 13 behind; the program goes on.
+    let mut wrong = pauschal(1, 937_921, vec![reading(0, WIDE[0], 0); 2_977]);
+    let mut list = vec![0; 2_977];
+    assert_eq!(settle(&archive(&[wrong.clone()]).bytes, 1, 1, &mut list).number, 8);
+    wrong.measures[0].quarters.truncate(1);
+    wrong.measures.push(pauschal(1, 937_921, vec![reading(300_000, 600_000, NONE)]).measures[0].clone());
+    let filed = archive(&[wrong]);
+    assert_eq!(settle(&filed.bytes, 1, 1, &mut []).number, 9);
+    assert_eq!(printed(&filed.bytes), "E 1 1 9\nM 1 2 1 75000 5\nQ 1 75000\n");
+}
+
+/// One quarter of each kind over small powers, from the sentence of request 3.
+#[test]
+fn october_grid() {
+    let readings = [NONE, -5, -1, 0, 3, 9];
+    for (reference, measured) in [(-4, -9), (-4, 2), (0, -3), (6, 1), (6, 9), (9, -2)] {
+        for nonavailable in readings {
+            for adjusted in readings {
+                let smallest = |power: i32, count| {
+                    let there = [nonavailable, adjusted].into_iter().take(count).filter(|&one| one != NONE);
+                    there.fold(power, i32::min)
+                };
+                let one = |technology, direction| {
+                    let mut sheet = pauschal(technology, 937_921, vec![reading(measured, nonavailable, adjusted)]);
+                    sheet.measures[0].direction = direction;
+                    sheet.measures[0].before[0].measured = reference;
+                    amounts(sheet).unwrap()[0]
+                };
+                let whole = |difference: i32| i64::from(difference.max(0) / 4);
+                assert_eq!(one(1, 2), whole(smallest(reference, 2) - measured));
+                assert_eq!(one(3, 2), whole(smallest(reference, 1) - measured));
+                assert_eq!(one(3, 1), -whole(smallest(measured, 1) - reference));
+            }
+        }
     }
 }
 

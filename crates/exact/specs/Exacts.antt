@@ -6,7 +6,8 @@ use Prim.Native.Nat.{ℕ, _≤_}
 use lib.IntN.{ℤ}
 use lib.Signed.{mag}
 use lib.ListN.{length}
-use Rattle.rules.specs.Terms.{Terms, Quarter}
+use Rattle.rules.specs.Archive.{fieldAt}
+use Rattle.rules.specs.Terms.{Terms, readingAt, Quarter}
 use Rattle.rules.specs.Reference.{Reference, exactOf}
 use Rattle.rules.specs.Settle.{readable}
 use Rattle.reference.specs.declared.Reference as code
@@ -25,6 +26,13 @@ pub record Ready (reference : code.Reference) (d : ℕ) (powers r : List ℕ) : 
   pub held : Held reference powers
   pub divides : Divides reference d
   pub size : length r ≡ 32
+
+-- a quarter whose powers are those of a record's bytes
+pub record ReadFrom (r : List ℕ) (q : Quarter) : Type 0 where
+  pub measured : q .measured ≡ fieldAt r 8
+  pub limit : q .limit ≡ fieldAt r 12
+  pub nonavailability : q .nonavailability ≡ readingAt r 24
+  pub marketAdjustment : q .marketAdjustment ≡ readingAt r 28
 
 -- the numerator of the exact magnitude over 4 × D; or a needed field is out of range
 abbrev pub exactAnswer : Bool → ℕ → Exact

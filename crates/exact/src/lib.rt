@@ -1,20 +1,23 @@
 // The exact magnitude of a quarter (document 01, 'Exact magnitude'): its numerator over 4 × D.
 ghost use mathlib.Core.Path.{_≡_};
 ghost use mathlib.Core.List.{[]};
+ghost use Prim.Native.Nat.{_≤_};
+ghost use lib.ListN.{length};
+ghost use lib.Signed.{mag};
 ghost use Rattle.rules.specs.Numbers.{orZero};
-ghost use Rattle.rules.specs.Terms.{quarterOf};
+ghost use Rattle.rules.specs.Terms.{Quarter, quarterOf};
 ghost use Rattle.rules.specs.October.{boundingOf};
 ghost use Rattle.rules.specs.Reference as book;
 ghost use Rattle.rules.specs.Reference.{magnitude as magnitudeOf};
 ghost use Rattle.terms.specs.Meanings.{meaning};
 ghost use Rattle.reference.specs.References.{Means};
-ghost use Rattle.reference.specs.Times.{timingOf, Shows};
-ghost use Rattle.exact.specs.Exacts.{Room, Ready, quarterAnswer};
+ghost use Rattle.reference.specs.Manners.{mannerOf, Shows};
+ghost use Rattle.exact.specs.Exacts.{Room, Ready, ReadFrom, quarterAnswer};
 use calendar::Clock;
 use record::Power;
+use reference::Manner;
 use reference::Numerator;
 use reference::Reference;
-use reference::Timing;
 use rules::Bounding;
 use rules::Direction;
 use terms::Terms;
@@ -54,7 +57,7 @@ pub fn exact_of(
     r: &[u8],
 ) -> Exact
     requires { ⌜ Ready reference d (now powers) (now r) ⌝ }
-    requires { ⌜ Timing.NoDate ≡ timingOf reference (meaning terms) ⌝ }
+    requires { ⌜ Manner.Plain ≡ mannerOf reference (meaning terms) ⌝ }
     requires { ⌜ Bounding.Unbounded ≡ boundingOf (meaning terms) ⌝ }
     ensures { λ x. ⌜ ((ref : book.Reference) → Means reference (now (powers .entry)) ref
         → x ≡ quarterAnswer (meaning terms) ref (quarterOf (meaning terms) index (now (r .entry)))) ⌝ }
@@ -88,34 +91,22 @@ pub fn exact_by_date(terms: Terms, index: u64, clock: Clock, pn: Watt, d: u64, r
     ))
 }
 
-// With the readings that bound T or L from October 2026 on (document 02, 3).
-pub fn exact_bounded(
-    terms: Terms,
-    index: u64,
-    bounding: Bounding,
-    reference: Reference,
-    d: u64,
-    powers: &[u32],
-    r: &[u8],
-) -> Exact
-    requires { ⌜ Ready reference d (now powers) (now r) ⌝ }
-    requires { ⌜ Timing.NoDate ≡ timingOf reference (meaning terms) ⌝ }
+// Of a quarter of wind or other Pauschal, with the readings that bound T, which is P0, or L from October 2026 on (document 02, 3).
+pub fn exact_bounded(terms: Terms, bounding: Bounding, p0: Watt, r: &[u8]) -> Exact
+    requires { ⌜ length (now r) ≡ 32 ⌝ }
+    requires { ⌜ mag (p0 .0) ≤ 1000000000 ⌝ }
     requires { ⌜ bounding ≡ boundingOf (meaning terms) ⌝ }
-    ensures { λ x. ⌜ ((ref : book.Reference) → Means reference (now (powers .entry)) ref
-        → x ≡ quarterAnswer (meaning terms) ref (quarterOf (meaning terms) index (now (r .entry)))) ⌝ }
+    ensures { λ x. ⌜ ((q : Quarter) → ReadFrom (now (r .entry)) q → x ≡ quarterAnswer (meaning terms) (book.lastMeasured (p0 .0)) q) ⌝ }
 {
     let Power::Of(l) = limitation::limit_of(terms, r) else {
         return Exact::OutOfRange;
     };
-    let Numerator::Of(t) = reference::numerator_of(reference, powers, terms, index, r) else {
-        return Exact::OutOfRange;
-    };
-    let Numerator::Of(lowest) = reference::bounded(bounding, d, t, r) else {
+    let Power::Of(t) = reference::lowest(bounding, p0, r) else {
         return Exact::OutOfRange;
     };
     let Power::Of(limit) = limitation::bounded(bounding, l, r) else {
         return Exact::OutOfRange;
     };
     let direction = terms.direction;
-    Exact::Of(magnitude(direction, d, lowest, limit))
+    Exact::Of(magnitude(direction, 1, t.0, limit))
 }

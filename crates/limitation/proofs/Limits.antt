@@ -1,7 +1,7 @@
 -- The limitation value by direction and execution, over plain variables.
-use mathlib.Core.Path.{_≡_, _∙_, ap₂}
+use mathlib.Core.Path.{_≡_, refl, _∙_, ap₂}
 use mathlib.Core.Bool.{true, false}
-use mathlib.Core.List.{[]}
+use mathlib.Core.List.{[], _∷_}
 use lib.IntN.{ℤ}
 use Rattle.rules.specs.declared.Direction.{Direction}
 use Rattle.rules.specs.declared.Direction.the-variants.{Positive as positive, Negative as negative}
@@ -15,10 +15,10 @@ use Rattle.rules.specs.October.{limitationBounds}
 use Rattle.rules.specs.Reference.{limitation}
 use Rattle.rules.specs.Settle.{limitReadable}
 use Rattle.units.specs.declared.Watt.{Watt}
+use Rattle.record.specs.declared.Power.{Power}
 use Rattle.record.specs.declared.Power.the-variants as power
-use Rattle.record.specs.declared.Reading.the-variants as reading
-use Rattle.record.specs.Powers.{PowerOf, ReadingOf}
-use Rattle.limitation.specs.Limits.{LimitedTo, BoundedTo}
+use Rattle.record.specs.Powers.{PowerOf, SmallestOf}
+use Rattle.limitation.specs.Limits.{LimitedTo}
 
 module _ (s : Direction) (x : Execution) (m l : ℤ) where
   pub limit-positive : x ≡ requested → s ≡ positive → smaller m l ≡ limitation s x m l
@@ -67,16 +67,10 @@ module _ (terms : Terms) (measured limit : ℤ) where
 
 -- ---- with the reading that bounds L
 
-module _ (q : Quarter) {b : Bounding} (l : Watt) where
-  pub limit-free : {x : Bounding} → b ≡ x → limitationBounds x q ≡ [] → BoundedTo b (l .0) q (power.Of l)
-  limit-free told e = (rw (told, e), rw (told, e))
+module _ (q : Quarter) {b : Bounding} where
+  pub limit-free : (l : Watt) {x : Bounding} → b ≡ x → limitationBounds x q ≡ [] → SmallestOf (limitationBounds b q) (l .0) (power.Of l)
+  limit-free l told e = rw (told, e) (refl, refl)
 
-  module _ (told : b ≡ limitationByNonavailability) {x : Reading} (is : q .nonavailability ≡ x) where
-    pub limit-no-reading : ReadingOf x reading.None → BoundedTo b (l .0) q (power.Of l)
-    limit-no-reading h = (rw (told, is, h), rw (told, is, h))
-
-    pub limit-reading : {p n : Watt} → ReadingOf x (reading.Of p) → n .0 ≡ smaller (l .0) (p .0) → BoundedTo b (l .0) q (power.Of n)
-    limit-reading h e = (rw (told, is, h .0), rw (told, is, h .1) e)
-
-    pub limit-out-of-range : ReadingOf x reading.OutOfRange → BoundedTo b (l .0) q power.OutOfRange
-    limit-out-of-range h = rw (told, is, h)
+  pub limit-bounded : (l : ℤ) (p : Power) {x : Reading} → b ≡ limitationByNonavailability → q .nonavailability ≡ x → SmallestOf (x ∷ []) l p
+      → SmallestOf (limitationBounds b q) l p
+  limit-bounded l p told is h = rw (told, is) h

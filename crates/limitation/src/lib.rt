@@ -1,13 +1,16 @@
 // The limitation value L of a quarter (Wert der Leistungslimitierung, 001, 3.1).
 ghost use mathlib.Core.Path.{_≡_};
+ghost use Prim.Native.Nat.{_≤_};
 ghost use lib.ListN.{length};
+ghost use lib.Signed.{mag};
 ghost use Rattle.rules.specs.Archive.{fieldAt};
 ghost use Rattle.rules.specs.Terms.{readingAt, Quarter};
+ghost use Rattle.rules.specs.October.{limitationBounds};
 ghost use Rattle.rules.specs.Reference.{limitation as limitationOf};
+ghost use Rattle.record.specs.Powers.{SmallestOf};
 ghost use Rattle.terms.specs.Meanings.{meaning};
-ghost use Rattle.limitation.specs.Limits.{LimitedTo, BoundedTo};
+ghost use Rattle.limitation.specs.Limits.{LimitedTo};
 use record::Power;
-use record::Reading;
 use rules::Bounding;
 use rules::Direction;
 use rules::Execution;
@@ -50,19 +53,16 @@ pub fn limit_of(terms: Terms, r: &[u8]) -> Power
     }
 }
 
-// With the reading that bounds it from October 2026 on (document 02, 3): other Pauschal, positive.
+// With the reading that bounds it from October 2026 on (document 02, 3): in other Pauschal, positive.
 pub fn bounded(bounding: Bounding, l: Watt, r: &[u8]) -> Power
     requires { ⌜ length (now r) ≡ 32 ⌝ }
-    ensures { λ p. ⌜ ((q : Quarter) → q .nonavailability ≡ readingAt (now (r .entry)) 24 → BoundedTo bounding (l .0) q p) ⌝ }
+    requires { ⌜ mag (l .0) ≤ 1000000000 ⌝ }
+    ensures { λ p. ⌜ ((q : Quarter) → q .nonavailability ≡ readingAt (now (r .entry)) 24 → SmallestOf (limitationBounds bounding q) (l .0) p) ⌝ }
 {
     match bounding {
         Bounding::Unbounded => Power::Of(l),
         Bounding::ReferenceByBoth => Power::Of(l),
         Bounding::ReferenceByNonavailability => Power::Of(l),
-        Bounding::LimitationByNonavailability => match record::reading_at(r, 24) {
-            Reading::None => Power::Of(l),
-            Reading::Of(power) => Power::Of(units::smaller(l, power)),
-            Reading::OutOfRange => Power::OutOfRange,
-        },
+        Bounding::LimitationByNonavailability => record::bounded_at(l, r, 24),
     }
 }

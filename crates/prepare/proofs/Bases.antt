@@ -8,15 +8,15 @@ use lib.ListN.{length, take, drop, getD, replicate}
 use lib.Seq.{take-length}
 use Rattle.rules.specs.Outcome.{Outcome, refused, given, _>>=_}
 use Rattle.rules.specs.Settle.{Place, Basis, placeOf, basisOf, quartersOf, Settlement, settlementOf, settled}
-use Rattle.rules.proofs.October.{factor-unbounded}
+use Rattle.rules.proofs.October.{unless-last}
 use Rattle.rules.proofs.Bounds.{NominalLow, basis-basic}
 use Rattle.place.specs.declared.Place as code-place
 use Rattle.place.specs.Places.{meant, Lies}
 use Rattle.reference.specs.declared.Reference.{Reference}
+use Rattle.reference.specs.declared.Reference.the-variants.{OnCurve, LastMeasured, OnIrradiance, ByFactor, AsPlanned}
 use Rattle.reference.specs.References.{Means, Held}
-use Rattle.reference.specs.Times.{FreeByDate}
+use Rattle.reference.specs.Manners.{Fits}
 use Rattle.reference.proofs.References.{held-by}
-use Rattle.reference.proofs.Times.{dated-by-factor}
 use Rattle.terms.specs.declared.Terms.{Terms}
 use Rattle.basis.specs.declared.Basis as code
 use Rattle.basis.specs.declared.Based.{Based}
@@ -43,8 +43,16 @@ module _ (archive : List ℕ) (place : Place) (powers : List ℕ) (r : Based) (h
     pub is : basisOf archive place ≡ given book
     pub stands : Stands basis powers book
     pub held : Held (basis .reference) powers
-    pub free : FreeByDate (basis .reference) (place .terms)
+    pub fits : Fits (basis .reference) (place .terms)
     pub links-few : basis .links ≤ 131072
+
+  -- where T isn't P0, the terms bound nothing
+  basis-fits : (b : Basis) → basisOf archive place ≡ given b → (r : Reference) → Means r powers (b .reference) → Fits r (place .terms)
+  basis-fits b i (OnCurve x y pn curve) m = sym (unless-last archive place b (λ p0 e. let k = m .is in let z : _≡_ {A = ℕ} 0 1 = cc in omega arith) i)
+  basis-fits b i (LastMeasured p0) m = tt
+  basis-fits b i (OnIrradiance x y) m = sym (unless-last archive place b (λ p0 e. let z : _≡_ {A = ℕ} 0 1 = cc in omega arith) i)
+  basis-fits b i (ByFactor pn) m = sym (unless-last archive place b (λ p0 e. let k = m .is in let z : _≡_ {A = ℕ} 0 1 = cc in omega arith) i)
+  basis-fits b i AsPlanned m = sym (unless-last archive place b (λ p0 e. let z : _≡_ {A = ℕ} 0 1 = cc in omega arith) i)
 
   standing : NominalLow (place .terms) → place .used ≤ 65535 → (basis : code.Basis) → r ≡ based.On basis → Standing basis
   standing low used basis t = go (basisOf archive place) refl h
@@ -60,9 +68,7 @@ module _ (archive : List ℕ) (place : Place) (powers : List ℕ) (r : Based) (h
             is = i;
             stands = s;
             held = held-by (b .reference) (s .means) (l .bounded);
-            free = λ pn timed.
-                let dated = dated-by-factor (basis .reference) (place .terms) timed in
-                sym (factor-unbounded archive place b (subst (λ (x : Reference). Means x powers (b .reference)) (dated .0) (s .means) .is) i);
+            fits = basis-fits b i (basis .reference) (s .means);
             links-few = omega (arith, l .links-few, s .links-are);
           }
 

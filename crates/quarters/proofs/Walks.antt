@@ -286,10 +286,12 @@ divided-by-factor {reference} {pn} {d} {powers} told h =
     let k = subst (λ (r : Reference). Divided r d powers) told h in
     record { held = record { bounded = k .held .bounded; ref = k .held .ref; means = k .held .means }; divides = k .divides }
 
-pub walks-by-factor : {archive powers sheet : List ℕ} {place : Place} {reference : Reference} {pn : Watt} {answer : Walked} → reference ≡ ByFactor pn
-    → Walks archive place (ByFactor pn) [] sheet answer → Walks archive place reference powers sheet answer
-walks-by-factor {archive} {powers} {sheet} {place} {reference} {pn} {answer} told w = record {
-  by = λ basis m. w .by basis (subst (λ (r : Reference). Means r powers (basis .reference)) told m);
+-- a walk over which no power of a curve was lent, by the reference that the code was told
+pub walks-as : {archive powers sheet : List ℕ} {place : Place} {reference : Reference} (x : Reference) {answer : Walked} → reference ≡ x
+    → ((basis : Basis) → Means x powers (basis .reference) → Means x [] (basis .reference))
+    → Walks archive place x [] sheet answer → Walks archive place reference powers sheet answer
+walks-as {archive} {powers} {sheet} {place} {reference} x {answer} told means w = record {
+  by = λ basis m. w .by basis (means basis (subst (λ (r : Reference). Means r powers (basis .reference)) told m));
 }
 
 -- ---- a place of the sheet

@@ -5,18 +5,19 @@ ghost use mathlib.Core.Bool.{_&&_};
 ghost use mathlib.Core.List.{[]};
 ghost use Prim.Native.Nat.{_≤_};
 ghost use lib.Dec.{leb};
+ghost use lib.Signed.{mag};
 ghost use Rattle.rules.specs.October.{boundingOf};
 ghost use Rattle.rules.specs.Settle.{datesAllowed};
 ghost use Rattle.terms.specs.Meanings.{meaning};
 ghost use Rattle.place.specs.Places.{Lies};
 ghost use Rattle.reference.specs.References.{Divided};
-ghost use Rattle.reference.specs.Times.{timingOf, FreeByDate};
+ghost use Rattle.reference.specs.Manners.{mannerOf, Fits};
 ghost use Rattle.quarters.specs.Walks.{isInRange, entered, answerAtEnd, Walks};
 use chains::Link;
 use exact::Exact;
 use place::Place;
+use reference::Manner;
 use reference::Reference;
-use reference::Timing;
 use rules::Bounding;
 use rules::kind;
 use rules::refusal;
@@ -80,7 +81,7 @@ fn answer_at_end(terms: Terms, count: usize, fine: bool) -> Walked
 // there is tested and counted only.
 
 // Where T isn't found by the date, and nothing bounds it or L.
-fn walk_without_date(
+fn walk_plain(
     archive: &[u8],
     place: Place,
     reference: Reference,
@@ -90,7 +91,7 @@ fn walk_without_date(
 ) -> Walked
     requires { ⌜ Lies (now archive) place ⌝ }
     requires { ⌜ Divided reference d (now powers) ⌝ }
-    requires { ⌜ Timing.NoDate ≡ timingOf reference (meaning (place .terms)) ⌝ }
+    requires { ⌜ Manner.Plain ≡ mannerOf reference (meaning (place .terms)) ⌝ }
     requires { ⌜ Bounding.Unbounded ≡ boundingOf (meaning (place .terms)) ⌝ }
     ensures { λ r. ⌜ Walks (now (archive .entry)) place reference (now (powers .entry)) (now (sheet .exit)) r ⌝ }
 {
@@ -151,21 +152,18 @@ fn walk_by_date(archive: &[u8], place: Place, pn: Watt, d: u64, sheet: &mut [u64
     answer_at_end(terms, count, fine)
 }
 
-// Where readings of the quarters bound T or L, from October 2026 on (document 02, 3).
+// Where readings of the quarters bound T, which is P0, or L: wind and other Pauschal from October 2026 on (document 02, 3).
 fn walk_bounded(
     archive: &[u8],
     place: Place,
     bounding: Bounding,
-    reference: Reference,
-    d: u64,
-    powers: &[u32],
+    p0: Watt,
     sheet: &mut [u64],
 ) -> Walked
     requires { ⌜ Lies (now archive) place ⌝ }
-    requires { ⌜ Divided reference d (now powers) ⌝ }
-    requires { ⌜ Timing.NoDate ≡ timingOf reference (meaning (place .terms)) ⌝ }
+    requires { ⌜ mag (p0 .0) ≤ 1000000000 ⌝ }
     requires { ⌜ bounding ≡ boundingOf (meaning (place .terms)) ⌝ }
-    ensures { λ r. ⌜ Walks (now (archive .entry)) place reference (now (powers .entry)) (now (sheet .exit)) r ⌝ }
+    ensures { λ r. ⌜ Walks (now (archive .entry)) place (Reference.LastMeasured p0) [] (now (sheet .exit)) r ⌝ }
 {
     let used = place.used;
     let terms = place.terms;
@@ -179,9 +177,8 @@ fn walk_bounded(
             return Walked::Refused(chains::refusal_of(answer, 0));
         };
         let i = n as usize;
-        let index = count as u64;
         let r = &archive[32 * i..32 * i + 32];
-        let magnitude = exact::exact_bounded(terms, index, bounding, reference, d, powers, r);
+        let magnitude = exact::exact_bounded(terms, bounding, p0, r);
         fine = enter(sheet, count, magnitude) & fine;
         count += 1;
         last = n;
@@ -190,7 +187,7 @@ fn walk_bounded(
     answer_at_end(terms, count, fine)
 }
 
-// The quarters of a measure, with a clock, with bounds or with neither; d is D.
+// The quarters of a measure, with a clock, with readings that bound or with neither; d is D.
 pub fn walk(
     archive: &[u8],
     place: Place,
@@ -201,18 +198,13 @@ pub fn walk(
 ) -> Walked
     requires { ⌜ Lies (now archive) place ⌝ }
     requires { ⌜ Divided reference d (now powers) ⌝ }
-    requires { ⌜ FreeByDate reference (meaning (place .terms)) ⌝ }
+    requires { ⌜ Fits reference (meaning (place .terms)) ⌝ }
     ensures { λ r. ⌜ Walks (now (archive .entry)) place reference (now (powers .entry)) (now (sheet .exit)) r ⌝ }
 {
     let terms = place.terms;
-    match reference::timing_of(reference, terms) {
-        Timing::ByDate(pn) => walk_by_date(archive, place, pn, d, sheet),
-        Timing::NoDate => {
-            let bounding = terms::bounding_of(terms);
-            let Bounding::Unbounded = bounding else {
-                return walk_bounded(archive, place, bounding, reference, d, powers, sheet);
-            };
-            walk_without_date(archive, place, reference, d, powers, sheet)
-        }
+    match reference::manner_of(reference, terms) {
+        Manner::Plain => walk_plain(archive, place, reference, d, powers, sheet),
+        Manner::ByDate(pn) => walk_by_date(archive, place, pn, d, sheet),
+        Manner::Bounded(bounding, p0) => walk_bounded(archive, place, bounding, p0, sheet),
     }
 }

@@ -1,12 +1,14 @@
 // The fields, the kind and the links of a record (document 01, 'The archive').
 ghost use mathlib.Core.Path.{_≡_};
 ghost use Prim.Native.Nat.{_+_, _*_, _^_, _≤_, _<_};
+ghost use mathlib.Core.List.{[], _∷_};
 ghost use lib.ListN.{length};
+ghost use lib.Signed.{mag};
 ghost use Rattle.rules.specs.Archive.{linkAt, fieldAt, recordAt, kindOf};
 ghost use Rattle.rules.specs.Terms.{readingAt};
 ghost use Rattle.rules.specs.Links.{isKind, linksOf, linksAt};
 ghost use Rattle.record.specs.Slots.{slotAnswer};
-ghost use Rattle.record.specs.Powers.{PowerOf, ReadingOf};
+ghost use Rattle.record.specs.Powers.{PowerOf, SmallestOf};
 use rules::kind;
 use units::Watt;
 
@@ -54,29 +56,21 @@ pub fn power_at(r: &[u8], at: usize) -> Power
     Power::Of(power)
 }
 
-// A power that a quarter may be without (document 02, 3).
-pub enum Reading {
-    None,
-    Of(Watt),
-    OutOfRange,
-}
-
-// The number that means none.
+// The number that means that there is no reading (document 02, 3). It is above every power in range.
 const NO_READING: u64 = 2147483647;
 
-pub fn reading_at(r: &[u8], at: usize) -> Reading
+// The smaller of a power and a reading of the record, which may be none.
+pub fn bounded_at(a: Watt, r: &[u8], at: usize) -> Power
     requires { ⌜ at + 4 ≤ length (now r) ⌝ }
-    ensures { λ x. ⌜ ReadingOf (readingAt (now (r .entry)) at) x ⌝ }
+    requires { ⌜ mag (a .0) ≤ 1000000000 ⌝ }
+    ensures { λ p. ⌜ SmallestOf (readingAt (now (r .entry)) at ∷ []) (a .0) p ⌝ }
 {
     let word = link_at(r, at);
-    if word == NO_READING {
-        return Reading::None;
-    }
     let power = units::watt_of(word);
-    if !units::in_power_range(power) {
-        return Reading::OutOfRange;
+    if !(units::in_power_range(power) | (word == NO_READING)) {
+        return Power::OutOfRange;
     }
-    Reading::Of(power)
+    Power::Of(units::smaller(a, power))
 }
 
 // Byte 0 of a record.

@@ -1,4 +1,4 @@
 pub mod Products
 pub mod References
 pub mod Referred
-pub mod Times
+pub mod Manners

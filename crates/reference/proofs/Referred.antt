@@ -1,37 +1,31 @@
 -- The reference power of a quarter, by what the code has read and tested.
 use mathlib.Core.Path.{_≡_, refl, sym, _∙_, ap, ap₂, subst}
-use mathlib.Core.Bool.{true}
+use mathlib.Core.Bool.{Bool, true, false, _&&_, and-true}
 use mathlib.Core.List.{List, [], _∷_}
 use Prim.Native.Nat.{ℕ, _≤_, _<_, _^_}
-use native.Mathlib.Omega.{arith}
 use borrow.Author.Tests.{le-leb, lt-leb}
 use lib.IntN.{ℤ, pos, _*ℤ_}
 use lib.Signed.{mag}
-use mir.Syntax.{w64}
-use mir.Val.{SFits, toZ}
-use mir.Facts.{toZ-pos}
 use Rattle.rules.specs.declared.Bounding.{Bounding}
 use Rattle.rules.specs.declared.Bounding.the-variants.{ReferenceByBoth as referenceByBoth, ReferenceByNonavailability as referenceByNonavailability}
 use Rattle.rules.specs.Numbers.{orZero, smaller}
 use Rattle.rules.specs.Terms.{isPower, isSpeed, isIrradiance, Point, Reading, Quarter}
-use Rattle.rules.specs.October.{referenceBounds, over as scaled, boundedBy, readingAllowed}
+use Rattle.rules.specs.October.{referenceBounds, boundedBy, readingAllowed}
 use Rattle.rules.specs.Reference as book
 use Rattle.rules.specs.Reference.{curvePower, plantFactor, numerator}
 use Rattle.rules.specs.Settle.{referenceReadable}
 use Rattle.rules.proofs.Ranges.{within-natural}
-use Rattle.rules.proofs.Bounds.{power-small}
-use Rattle.rules.proofs.October.{smallest-over}
+use Rattle.rules.proofs.Bounds.{smallest-small}
 use Rattle.units.specs.declared.Watt.{Watt}
 use Rattle.units.specs.declared.Irradiance.{Irradiance}
 use Rattle.units.proofs.Laws.{held, back}
+use Rattle.record.specs.declared.Power.{Power}
 use Rattle.record.specs.declared.Power.the-variants as power
-use Rattle.record.specs.declared.Reading.the-variants as reading
-use Rattle.record.specs.Powers.{PowerOf, ReadingOf}
+use Rattle.record.specs.Powers.{PowerOf, SmallestOf}
 use Rattle.reference.specs.declared.Reference.{Reference}
 use Rattle.reference.specs.declared.Numerator.{Numerator}
 use Rattle.reference.specs.declared.Numerator.the-variants as over
-use Rattle.reference.specs.References.{Means, UpTo, OnCurveBounds, ReferredTo, LoweredTo, BoundedTo}
-use Rattle.reference.proofs.Products.{times-fits, times-is}
+use Rattle.reference.specs.References.{Means, UpTo, OnCurveBounds, ReferredTo}
 
 module _ (q : Quarter) where
   pub curve-referred : (a b pn : Watt) (points : List Point) → OnCurveBounds a b pn → (p t : ℤ) → isSpeed (q .weather) ≡ true
@@ -87,44 +81,28 @@ referred-as ref q n e h = subst (λ (r : book.Reference). ReferredTo r q n) (sym
 
 -- ---- with the readings that bound T
 
--- the product of a power in range and d
-module _ {x : Reading} {p : Watt} {y : ℤ} {d : ℕ} (h : ReadingOf x (reading.Of p)) (e : y ≡ p .0) (low : d ≤ 4000000000) where
-  power-low : mag (p .0) ≤ 1000000000
-  power-low = power-small (p .0) (subst (λ (z : Reading). readingAllowed z ≡ true) (h .1) (h .0))
+-- the first of two readings, tested by itself
+first-of : (x y : Reading) {t : Bool} → (readingAllowed x && true) ≡ t → (readingAllowed x && (readingAllowed y && true)) ≡ (t && (readingAllowed y && true))
+first-of x y e = ap (λ (a : Bool). a && (readingAllowed y && true)) (sym (and-true (readingAllowed x)) ∙ e)
 
-  pub bound-fits : SFits w64 (y *ℤ toZ w64 d)
-  bound-fits = times-fits (p .0) (pos d) _ _ d 1000000001 4000000000 e (toZ-pos w64 (omega arith)) refl (omega (arith, power-low)) low (omega arith)
+module _ (q : Quarter) {b : Bounding} where
+  pub lowest-free : (t : Watt) {x : Bounding} → b ≡ x → referenceBounds x q ≡ [] → SmallestOf (referenceBounds b q) (t .0) (power.Of t)
+  lowest-free t told e = rw (told, e) (refl, refl)
 
-  pub bound-is : held (y *ℤ toZ w64 d) ≡ p .0 *ℤ pos d
-  bound-is = times-is (p .0) (pos d) _ _ d 1000000001 4000000000 e (toZ-pos w64 (omega arith)) refl (omega (arith, power-low)) low (omega arith)
+  pub lowest-one : (t : ℤ) (p : Power) {x : Reading} → b ≡ referenceByNonavailability → q .nonavailability ≡ x → SmallestOf (x ∷ []) t p
+      → SmallestOf (referenceBounds b q) t p
+  lowest-one t p told is h = rw (told, is) h
 
-  pub lowered-by : (t : ℤ) {n : ℤ} → n ≡ smaller t (p .0 *ℤ pos d) → LoweredTo x d t (over.Of n)
-  lowered-by t i = (h .0, rw (h .1) i)
+  module _ (t : ℤ) {x : Reading} (told : b ≡ referenceByBoth) (first : q .nonavailability ≡ x) where
+    pub lowest-first : SmallestOf (x ∷ []) t power.OutOfRange → SmallestOf (referenceBounds b q) t power.OutOfRange
+    lowest-first h = rw (told, first) (first-of x (q .marketAdjustment) h)
 
-pub lowered-none : {x : Reading} (d : ℕ) {t n : ℤ} → ReadingOf x reading.None → n ≡ t → LoweredTo x d t (over.Of n)
-lowered-none d h e = (rw h, rw h e)
+    pub lowest-both : {y : Reading} {n : Watt} (p : Power) → q .marketAdjustment ≡ y → SmallestOf (x ∷ []) t (power.Of n) → SmallestOf (y ∷ []) (n .0) p
+        → SmallestOf (referenceBounds b q) t p
+    lowest-both {y} (power.Of m) second h k =
+        rw (told, first, second) (first-of x y (h .0) ∙ k .0, k .1 ∙ ap (boundedBy y) (h .1))
+    lowest-both {y} power.OutOfRange second h k = rw (told, first, second) (first-of x y (h .0) ∙ k)
 
--- as the code holds a number
-pub lowered-held : (x : Reading) (d : ℕ) (t : ℤ) (n : Numerator) → mag t < 2 ^ 63 → LoweredTo x d (held t) n → LoweredTo x d t n
-lowered-held x d t n low h = subst (λ (z : ℤ). LoweredTo x d z n) (back t low) h
-
-pub lowered-fits : (x : Reading) (d : ℕ) (t n : ℤ) → d ≤ 4000000000 → mag t < 2 ^ 63 → LoweredTo x d t (over.Of n) → mag n < 2 ^ 63
-lowered-fits x d t n low h k =
-    subst (λ (z : ℤ). mag z < 2 ^ 63) (sym (k .1))
-    (omega (arith, smallest-over d 9223372036854775807 t (x ∷ []) (omega (arith, low)) (omega (arith, h)) (rw (k .0))))
-
-module _ (q : Quarter) {b : Bounding} (d : ℕ) (t : ℤ) where
-  pub bounded-free : {x : Bounding} {n : ℤ} → b ≡ x → referenceBounds x q ≡ [] → n ≡ t → BoundedTo b d t q (over.Of n)
-  bounded-free told e i = (rw (told, e), rw (told, e) i)
-
-  pub bounded-one : {x : Reading} (n : Numerator) → b ≡ referenceByNonavailability → q .nonavailability ≡ x → LoweredTo x d t n → BoundedTo b d t q n
-  bounded-one (over.Of n) told is h = (rw (told, is, h .0), rw (told, is) (h .1))
-  bounded-one over.OutOfRange told is h = rw (told, is, h)
-
-  module _ {x : Reading} (told : b ≡ referenceByBoth) (first : q .nonavailability ≡ x) where
-    pub bounded-first : LoweredTo x d t over.OutOfRange → BoundedTo b d t q over.OutOfRange
-    bounded-first h = rw (told, first, h)
-
-    pub bounded-both : {y : Reading} (m : ℤ) (n : Numerator) → q .marketAdjustment ≡ y → LoweredTo x d t (over.Of m) → LoweredTo y d m n → BoundedTo b d t q n
-    bounded-both {y} m (over.Of n) second h k = (rw (told, first, second, h .0, k .0), rw (told, first, second) (k .1 ∙ ap (boundedBy (scaled d y)) (h .1)))
-    bounded-both m over.OutOfRange second h k = rw (told, first, second, h .0, k)
+-- the smaller of a power and a reading is a power
+pub lowest-small : (t : ℤ) (x : Reading) (n : Watt) → mag t ≤ 1000000000 → SmallestOf (x ∷ []) t (power.Of n) → mag (n .0) ≤ 1000000000
+lowest-small t x n h k = subst (λ (z : ℤ). mag z ≤ 1000000000) (sym (k .1)) (smallest-small (x ∷ []) t h (k .0))

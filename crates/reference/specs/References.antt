@@ -2,13 +2,11 @@
 use Prim.Native.Nat.{ℕ, _≤_, _<_}
 use mathlib.Core.Path.{_≡_}
 use mathlib.Core.Bool.{true, false}
-use mathlib.Core.List.{List, map}
+use mathlib.Core.List.{List}
 use lib.IntN.{ℤ, pos}
 use lib.Signed.{mag}
-use Rattle.rules.specs.declared.Bounding.{Bounding}
-use Rattle.rules.specs.Numbers.{all, orZero}
-use Rattle.rules.specs.Terms.{Point, Reading, Quarter}
-use Rattle.rules.specs.October.{referenceBounds, over, boundedBy, smallest, readingAllowed}
+use Rattle.rules.specs.Numbers.{orZero}
+use Rattle.rules.specs.Terms.{Point, Quarter}
 use Rattle.rules.specs.Reference as book
 use Rattle.rules.specs.Settle.{referenceReadable}
 use Rattle.rules.proofs.Bounds.{IrradianceBounds}
@@ -90,14 +88,3 @@ pub record Divided (reference : Reference) (d : ℕ) (powers : List ℕ) : Type 
 abbrev pub ReferredTo : book.Reference → Quarter → Numerator → Type 0
 ReferredTo ref q (numerator.Of t) = (referenceReadable ref q ≡ true) × (t ≡ book.numerator ref q)
 ReferredTo ref q numerator.OutOfRange = referenceReadable ref q ≡ false
-
--- a numerator over d bounded by a reading; or that is out of range
-abbrev pub LoweredTo : Reading → ℕ → ℤ → Numerator → Type 0
-LoweredTo x d t (numerator.Of n) = (readingAllowed x ≡ true) × (n ≡ boundedBy (over d x) t)
-LoweredTo x d t numerator.OutOfRange = readingAllowed x ≡ false
-
--- and by all that bound T
-abbrev pub BoundedTo : Bounding → ℕ → ℤ → Quarter → Numerator → Type 0
-BoundedTo bounding d t q (numerator.Of n) =
-    (all readingAllowed (referenceBounds bounding q) ≡ true) × (n ≡ smallest t (map (over d) (referenceBounds bounding q)))
-BoundedTo bounding d t q numerator.OutOfRange = all readingAllowed (referenceBounds bounding q) ≡ false

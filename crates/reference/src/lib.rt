@@ -1,18 +1,20 @@
 // The reference power T of a measure's quarters (document 01, 'Reference power T'): a numerator over one denominator D.
 ghost use mathlib.Core.Path.{_≡_};
-ghost use Prim.Native.Nat.{_+_, _≤_, _<_};
+ghost use Prim.Native.Nat.{_≤_, _<_};
 ghost use lib.ListN.{length};
+ghost use lib.Signed.{mag};
 ghost use Rattle.rules.specs.Numbers.{orZero, smaller};
 ghost use Rattle.rules.specs.Archive.{byteAt, fieldAt};
 ghost use Rattle.rules.specs.Terms.{Quarter, monthOf, quarterOfDayOf, readingAt, quarterOf};
+ghost use Rattle.rules.specs.October.{referenceBounds};
 ghost use Rattle.rules.specs.Reference as book;
+ghost use Rattle.record.specs.Powers.{SmallestOf};
 ghost use Rattle.terms.specs.Meanings.{meaning};
-ghost use Rattle.reference.specs.References.{Bounded, Held, Means, Divides, ReferredTo, LoweredTo, BoundedTo};
-ghost use Rattle.reference.specs.Times.{timingOf, Shows};
+ghost use Rattle.reference.specs.References.{Bounded, Held, Means, Divides, ReferredTo};
+ghost use Rattle.reference.specs.Manners.{mannerOf, Shows};
 use calendar::Clock;
 use curve::Curve;
 use record::Power;
-use record::Reading;
 use rules::Bounding;
 use terms::Terms;
 use units::Irradiance;
@@ -72,25 +74,36 @@ fn quarter_of_day_of(terms: Terms, index: u64, r: &[u8]) -> u64
     byte_at(r, 2)
 }
 
-// Whether T goes by the date (document 02, 1): in solar Pauschal with a date, and nowhere else.
-pub enum Timing {
-    NoDate,
+// What goes along with the quarters of a measure: nothing; the date, in solar Pauschal that has one (document 02, 1); readings that bound T or L,
+// in wind and other Pauschal from October 2026 on (document 02, 3).
+pub enum Manner {
+    Plain,
     // Pn
     ByDate(Watt),
+    // P0
+    Bounded(Bounding, Watt),
 }
 
-pub fn timing_of(reference: Reference, terms: Terms) -> Timing
-    ensures { λ t. ⌜ t ≡ timingOf reference (meaning terms) ⌝ }
+pub fn manner_of(reference: Reference, terms: Terms) -> Manner
+    ensures { λ m. ⌜ m ≡ mannerOf reference (meaning terms) ⌝ }
 {
-    if terms.first.0 == 0 {
-        return Timing::NoDate;
-    }
     match reference {
-        Reference::OnCurve(_, _, _, _) => Timing::NoDate,
-        Reference::LastMeasured(_) => Timing::NoDate,
-        Reference::OnIrradiance(_, _) => Timing::NoDate,
-        Reference::ByFactor(pn) => Timing::ByDate(pn),
-        Reference::AsPlanned => Timing::NoDate,
+        Reference::OnCurve(_, _, _, _) => Manner::Plain,
+        Reference::LastMeasured(p0) => {
+            let bounding = terms::bounding_of(terms);
+            let Bounding::Unbounded = bounding else {
+                return Manner::Bounded(bounding, p0);
+            };
+            Manner::Plain
+        }
+        Reference::OnIrradiance(_, _) => Manner::Plain,
+        Reference::ByFactor(pn) => {
+            if terms.first.0 == 0 {
+                return Manner::Plain;
+            }
+            Manner::ByDate(pn)
+        }
+        Reference::AsPlanned => Manner::Plain,
     }
 }
 
@@ -181,7 +194,7 @@ pub fn numerator_of(
     r: &[u8],
 ) -> Numerator
     requires { ⌜ Held reference (now powers) ⌝ }
-    requires { ⌜ Timing.NoDate ≡ timingOf reference (meaning terms) ⌝ }
+    requires { ⌜ Manner.Plain ≡ mannerOf reference (meaning terms) ⌝ }
     requires { ⌜ length (now r) ≡ 32 ⌝ }
     ensures { λ n. ⌜ ((ref : book.Reference) → Means reference (now (powers .entry)) ref
         → ReferredTo ref (quarterOf (meaning terms) index (now (r .entry))) n) ⌝ }
@@ -211,35 +224,22 @@ pub fn numerator_by_date(pn: Watt, terms: Terms, index: u64, clock: Clock, r: &[
 
 // ---- with the readings that bound T from October 2026 on (document 02, 3)
 
-// The smaller of a numerator over d and a reading of the quarter times d.
-fn lowered(t: i64, d: u64, r: &[u8], at: usize) -> Numerator
-    requires { ⌜ (length (now r) ≡ 32) × (at + 4 ≤ 32) ⌝ }
-    requires { ⌜ d ≤ 4000000000 ⌝ }
-    ensures { λ n. ⌜ LoweredTo (readingAt (now (r .entry)) at) d t n ⌝ }
-{
-    match record::reading_at(r, at) {
-        Reading::None => Numerator::Of(t),
-        Reading::Of(power) => Numerator::Of(capped(t, power.0 * d as i64)),
-        Reading::OutOfRange => Numerator::OutOfRange,
-    }
-}
-
-// Wind Pauschal by both readings; other Pauschal, negative, by nonavailability.
-pub fn bounded(bounding: Bounding, d: u64, t: i64, r: &[u8]) -> Numerator
+// P0 in wind Pauschal by both readings, in other Pauschal, negative, by nonavailability.
+pub fn lowest(bounding: Bounding, p0: Watt, r: &[u8]) -> Power
     requires { ⌜ length (now r) ≡ 32 ⌝ }
-    requires { ⌜ d ≤ 4000000000 ⌝ }
-    ensures { λ n. ⌜ ((q : Quarter) → q .nonavailability ≡ readingAt (now (r .entry)) 24 → q .marketAdjustment ≡ readingAt (now (r .entry)) 28
-        → BoundedTo bounding d t q n) ⌝ }
+    requires { ⌜ mag (p0 .0) ≤ 1000000000 ⌝ }
+    ensures { λ p. ⌜ ((q : Quarter) → q .nonavailability ≡ readingAt (now (r .entry)) 24 → q .marketAdjustment ≡ readingAt (now (r .entry)) 28
+        → SmallestOf (referenceBounds bounding q) (p0 .0) p) ⌝ }
 {
     match bounding {
-        Bounding::Unbounded => Numerator::Of(t),
+        Bounding::Unbounded => Power::Of(p0),
         Bounding::ReferenceByBoth => {
-            let Numerator::Of(n) = lowered(t, d, r, 24) else {
-                return Numerator::OutOfRange;
+            let Power::Of(lower) = record::bounded_at(p0, r, 24) else {
+                return Power::OutOfRange;
             };
-            lowered(n, d, r, 28)
+            record::bounded_at(lower, r, 28)
         }
-        Bounding::ReferenceByNonavailability => lowered(t, d, r, 24),
-        Bounding::LimitationByNonavailability => Numerator::Of(t),
+        Bounding::ReferenceByNonavailability => record::bounded_at(p0, r, 24),
+        Bounding::LimitationByNonavailability => Power::Of(p0),
     }
 }

@@ -177,11 +177,10 @@ readings-low (r ∷ rs) e = let b = both (readingAllowed r) (all readingAllowed 
     go absent h = tt
     go (of power) h = power-small power h
 
-pub bounded-limit-small : (b : Bounding) (q : Quarter) (l : ℤ) → mag l ≤ 1000000000 → all readingAllowed (limitationBounds b q) ≡ true
-    → mag (smallest l (limitationBounds b q)) ≤ 1000000000
-bounded-limit-small b q l h e = smallest-low (limitationBounds b q) l 1000000000 h (readings-low (limitationBounds b q) e)
+pub smallest-small : (rs : List Reading) (n : ℤ) → mag n ≤ 1000000000 → all readingAllowed rs ≡ true → mag (smallest n rs) ≤ 1000000000
+smallest-small rs n h e = smallest-low rs n 1000000000 h (readings-low rs e)
 
-pub bounded-reference-small : (b : Bounding) (q : Quarter) (d : ℕ) (t : ℤ) → DenominatorBounds d → Small d t → all readingAllowed (referenceBounds b q) ≡ true
+bounded-reference-small : (b : Bounding) (q : Quarter) (d : ℕ) (t : ℤ) → DenominatorBounds d → Small d t → all readingAllowed (referenceBounds b q) ≡ true
     → Small d (smallest t (map (over d) (referenceBounds b q)))
 bounded-reference-small b q d t h small e = record {
   fits = smallest-over d _ t (referenceBounds b q) (omega (arith, h .low)) (small .fits) e;
@@ -198,7 +197,7 @@ exact-small terms r q h e =
     let d = denominator-bounded r h in
     magnitude-bound (terms .direction) (denominator r) _ _
     (bounded-reference-small (boundingOf terms) q (denominator r) (numerator r q) d (numerator-small r q h (needed .1)) (bounds .0) .near)
-    (bounded-limit-small (boundingOf terms) q _ (limit-small (terms .direction) (terms .execution) (q .measured) (q .limit) (needed .0)) (bounds .1)) (d .some)
+    (smallest-small (limitationBounds (boundingOf terms) q) _ (limit-small (terms .direction) (terms .execution) (q .measured) (q .limit) (needed .0)) (bounds .1)) (d .some)
 
 -- ---- lists
 

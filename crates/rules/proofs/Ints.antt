@@ -89,6 +89,9 @@ under-times (pos a) n = sym (zero-mul n)
 under-times (negsuc a) n = under-neg (pos (suc a * n))
 
 -- the same without a difference, so that omega makes no case of it: for equations and orders between whole numbers
+pub times-one : (a : ℤ) → a *ℤ pos 1 ≡ a
+times-one a = parts-eq (a *ℤ pos 1) a (omega (arith, orZero-times a 1, under-times a 1))
+
 pub sub-parts : (a b : ℕ) → orZero (subℕ a b) + b ≡ a + under (subℕ a b)
 sub-parts a b = omega (arith, orZero-sub a b, under-sub a b)
 

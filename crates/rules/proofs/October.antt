@@ -11,7 +11,7 @@ use Rattle.rules.specs.Numbers.{all, smaller}
 use Rattle.rules.specs.Outcome.{given}
 use Rattle.rules.specs.Terms.{Technology, wind, solar, other, Variant, spitz, pauschal, Direction, Terms, Reading, none, of, Before, Quarter}
 use Rattle.rules.specs.October.{unbounded, isSinceOctober, boundingBy, boundingOf, over, boundedBy, smallest, readingAllowed}
-use Rattle.rules.specs.Reference.{limitation, Reference, lastMeasured, byFactor, numerator, limitOf, referenceOf}
+use Rattle.rules.specs.Reference.{limitation, Reference, lastMeasured, numerator, limitOf, referenceOf}
 use Rattle.rules.specs.Settle.{Place, Basis, firstMarked, pauschalBasis, basisBy, basisOf, boundsReadable}
 use Rattle.rules.proofs.Inversion.{Holds, holds-refused, holds-bind, holds-require, holds-given, All, none as no-more, more}
 use Rattle.rules.proofs.Ints.{parts-le, orZero-times, under-times, mag-parts, smaller-mono}
@@ -81,7 +81,7 @@ module _ (terms : Terms) (q : Quarter) (free : boundingOf terms ≡ unbounded) w
   pub unbounded-readable : boundsReadable (boundingOf terms) q ≡ true
   unbounded-readable = rw free
 
--- ---- what goes by the plant factor, in solar Pauschal, is never bounded
+-- ---- where T isn't P0, nothing is bounded
 
 abbrev Last : Basis → Type 0
 Last b = (p0 : ℤ) × (b .reference ≡ lastMeasured p0)
@@ -94,23 +94,23 @@ first-last (b ∷ bs) links = holds-require _ 9 _ (λ r. holds-given _ (b .measu
 pauschal-last : (archive : List ℕ) (place : Place) → Holds Last (pauschalBasis archive place)
 pauschal-last archive place = holds-bind _ _ (λ entries e. first-last _ _)
 
-module _ (archive : List ℕ) (place : Place) (b : Basis) {pn : ℕ} (factor : b .reference ≡ byFactor pn) where
-  not-last : {X : Type 0} → Last b → X
-  not-last h = let e = h .1 in let z : _≡_ {A = ℕ} 0 1 = cc in absurd (omega arith)
+module _ (archive : List ℕ) (place : Place) (b : Basis) (not-last : (p0 : ℤ) → b .reference ≡ lastMeasured p0 → ⊥) where
+  clash : {X : Type 0} → Last b → X
+  clash h = absurd (not-last (h .0) (h .1))
 
-  by-factor : (t : Technology) (v : Variant) (s : Direction) → basisBy t v archive place ≡ given b → boundingBy t v s ≡ unbounded
+  by-pairing : (t : Technology) (v : Variant) (s : Direction) → basisBy t v archive place ≡ given b → boundingBy t v s ≡ unbounded
   unfolding basisBy
-  by-factor wind spitz s e = refl
-  by-factor wind pauschal s e = not-last (pauschal-last archive place .of b e)
-  by-factor solar spitz s e = refl
-  by-factor solar pauschal s e = refl
-  by-factor other spitz s e = refl
-  by-factor other pauschal s e = not-last (pauschal-last archive place .of b e)
+  by-pairing wind spitz s e = refl
+  by-pairing wind pauschal s e = clash (pauschal-last archive place .of b e)
+  by-pairing solar spitz s e = refl
+  by-pairing solar pauschal s e = refl
+  by-pairing other spitz s e = refl
+  by-pairing other pauschal s e = clash (pauschal-last archive place .of b e)
 
-  pub factor-unbounded : basisOf archive place ≡ given b → boundingOf (place .terms) ≡ unbounded
+  pub unless-last : basisOf archive place ≡ given b → boundingOf (place .terms) ≡ unbounded
   unfolding boundingOf
-  factor-unbounded e = go (isSinceOctober (place .terms))
+  unless-last e = go (isSinceOctober (place .terms))
     where
       go : (t : Bool) → cond t (boundingBy (place .terms .technology) (place .terms .variant) (place .terms .direction)) unbounded ≡ unbounded
-      go true = by-factor (place .terms .technology) (place .terms .variant) (place .terms .direction) e
+      go true = by-pairing (place .terms .technology) (place .terms .variant) (place .terms .direction) e
       go false = refl

@@ -1,7 +1,8 @@
 //! Asks the linked library and the proved program generated calls, and writes the cases with their lines.
 //!
 //! Arguments: seed, count of different archives, folder, the program. Writes FOLDER/cases for a reader made from the
-//! pages, and FOLDER/lines with what it should print. Exit status 1 if a number was never reached.
+//! pages, and FOLDER/lines with what it should print. Exit status 1 if a number or a branch of request 3 was never
+//! reached.
 //! Without the program: tells the first case whose line in FOLDER/read isn't the one in FOLDER/lines.
 //!
 //! A case, every number little-endian: call (1 byte), a and b (8 each), then list, result part, archive and record,
@@ -15,9 +16,10 @@
 #[path = "shared/host.rs"]
 mod host;
 
-use reference::archive::{record, MEASURE, PLANT, RECORD};
+use reference::archive::{field, record, ADJUSTED, MEASURE, NONAVAILABLE, PLANT, RECORD};
 use reference::generate::{self, Call};
 use reference::rng::Rng;
+use reference::settle::{first_quarter, quarters, reading_places, terms, Pairing, NONE, POWER};
 use std::collections::{BTreeMap, HashSet};
 use std::fs::{self, File};
 use std::io::{self, BufWriter, Write};
@@ -154,6 +156,36 @@ impl Case {
     }
 }
 
+/// Whose readings request 3 reads, and what has to be reached of each.
+const READ: [(Pairing, u8); 3] = [(Pairing::WindPauschal, 2), (Pairing::OtherPauschal, 2), (Pairing::OtherPauschal, 1)];
+const BRANCHES: [&str; 4] = [
+    "settled with a reading that is none",
+    "settled with a reading that is there",
+    "refused with 9, a reading out of range",
+    "settled with readings out of range that aren't read",
+];
+
+/// The branches that a settle case with this number reaches.
+fn branches(case: &Case, number: u32) -> Option<Vec<(usize, usize)>> {
+    let (pairing, direction, _) = terms(&case.archive, case.a, case.b)?;
+    let first = first_quarter(&case.archive, case.a, case.b)?;
+    let whose = READ.iter().position(|&one| one == (pairing, direction))?;
+    let quarters = quarters(&case.archive, case.a, case.b)?;
+    let places = reading_places(pairing, first);
+    let any = |read: bool, fits: &dyn Fn(i128) -> bool| {
+        let places = [NONAVAILABLE, ADJUSTED].into_iter().filter(|at| places.contains(at) == read);
+        places.map(|at| quarters.iter().any(|quarter| fits(field(quarter, at)))).any(|found| found)
+    };
+    let wide = |power: i128| power != NONE && !POWER.contains(&power);
+    let reached = [
+        number == 0 && any(true, &|power| power == NONE),
+        number == 0 && any(true, &|power| power != NONE),
+        number == 9 && any(true, &wide),
+        number == 0 && any(false, &wide),
+    ];
+    Some((0..4).filter(|&branch| reached[branch]).map(|branch| (whose, branch)).collect())
+}
+
 /// FNV-1a, 64 bits.
 fn hash(bytes: &[u8]) -> u64 {
     bytes.iter().fold(0xcbf2_9ce4_8422_2325, |hash, &byte| (hash ^ u64::from(byte)).wrapping_mul(0x100_0000_01b3))
@@ -232,6 +264,7 @@ fn ask(seed: u64, archives: usize, folder: &Path, program: &Path) -> io::Result<
     let mut lines = BufWriter::new(File::create(folder.join("lines"))?);
     let mut calls = [0u64; 9];
     let mut numbers: BTreeMap<(u8, u32), u64> = BTreeMap::new();
+    let mut october = [[0u64; 4]; 3];
     let mut length = 0;
     let made = each(seed, archives, |_, mut case| {
         let bytes = case.bytes();
@@ -240,6 +273,11 @@ fn ask(seed: u64, archives: usize, folder: &Path, program: &Path) -> io::Result<
         let (line, found) = case.answer(program, folder)?;
         writeln!(lines, "{line}")?;
         calls[usize::from(case.call)] += 1;
+        if case.call == SETTLE {
+            for (whose, branch) in branches(&case, found[0]).unwrap_or_default() {
+                october[whose][branch] += 1;
+            }
+        }
         for number in found {
             *numbers.entry((case.call, number)).or_default() += 1;
         }
@@ -267,6 +305,16 @@ fn ask(seed: u64, archives: usize, folder: &Path, program: &Path) -> io::Result<
         for ((_, number), _) in numbers.iter().filter(|((own, number), _)| *own == call && !wanted.contains(number)) {
             println!("NOT ALLOWED: {number} in {name}");
             complete = false;
+        }
+    }
+    for ((pairing, direction), times) in READ.iter().zip(october) {
+        let side = if *direction == 1 { "positive" } else { "negative" };
+        for (what, times) in BRANCHES.iter().zip(times) {
+            println!("{pairing:?} {side}, {what}: {times}");
+            if times == 0 {
+                println!("NEVER REACHED: {pairing:?} {side}, {what}");
+                complete = false;
+            }
         }
     }
     Ok(complete)

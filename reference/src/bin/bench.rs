@@ -115,6 +115,7 @@ fn sheet(technology: u8, variant: u8, points: i32, before: usize, quarters: usiz
             limit: rng.range(0, 900_000) as i32,
             weather: weather(rng),
             planned: rng.range(0, 2_000_000) as i32,
+            ..Quarter::default()
         })
         .collect();
     let measure = Measure { direction: 2, execution: 1, first: 0, before, quarters };
@@ -125,6 +126,37 @@ fn sheet(technology: u8, variant: u8, points: i32, before: usize, quarters: usiz
 fn dated(mut plant: Plant) -> Plant {
     plant.measures[0].first = 926_209;
     plant
+}
+
+/// The rows of request 3: technology, direction and name, all in Pauschal.
+const OCTOBER: [(u8, u8, &str); 3] = [
+    (1, 2, "wind Pauschal, since October 2026"),
+    (3, 2, "other Pauschal, since October 2026"),
+    (3, 1, "other Pauschal, positive, since October 2026"),
+];
+
+/// The same from 1 October 2026 on: each reading is there in half the quarters, and the smallest in some of them.
+fn since_october(mut plant: Plant, direction: u8, rng: &mut Rng) -> Plant {
+    let measure = &mut plant.measures[0];
+    (measure.first, measure.direction) = (937_921, direction);
+    if direction == 1 {
+        measure.before[0].measured = 200_000;
+    }
+    for quarter in &mut measure.quarters {
+        let mut reading = || if rng.chance(50) { i32::MAX } else { rng.range(0, 2_000_000) as i32 };
+        (quarter.nonavailable, quarter.adjusted) = (reading(), reading());
+    }
+    plant
+}
+
+/// Whether a version has request 3: with a reading of 0 and L 0 nothing is left of the reference.
+fn reads(version: &Version) -> bool {
+    let mut plant = sheet(1, 2, 2, 1, 1, &mut Rng::new(7, 9));
+    plant.measures[0].first = 937_921;
+    plant.measures[0].quarters[0] = Quarter::default();
+    let archive = file(&[plant], &Layout::PLAIN, &mut Rng::new(7, 9)).bytes;
+    let (mut list, mut result) = ([0; 8], [0; 24]);
+    version.places.iter().all(|place| place.settle(&archive, 1, 1, &mut list, &mut result) == 0 && list == [0; 8])
 }
 
 /// Times settle of the only measure; all sides must give the same.
@@ -319,6 +351,19 @@ fn main() {
         SPAN.as_micros()
     );
 
+    // Rows of request 3, of a technology's Pauschal, where every version has it; numbers of their own, so that the
+    // later inputs are the same in every version.
+    let october = versions.iter().all(reads);
+    let october_rng = &mut Rng::new(7, 9);
+    let mut october_rows = |technology: u8, plant: &Plant, per: f64| {
+        for (_, direction, name) in OCTOBER.into_iter().filter(|&(own, _, _)| october && own == technology) {
+            let count = plant.measures[0].quarters.len();
+            let plant = since_october(plant.clone(), direction, october_rng);
+            let archive = file(&[plant], &Layout::PLAIN, october_rng).bytes;
+            row(name, &settle(repetitions, &versions, &archive, count), per);
+        }
+    };
+
     header("Settle, 2,976 quarters (26 curve points, 96 before-quarters, requested)", "ns per quarter", &versions);
     for (technology, variant, name) in PAIRINGS {
         let plant = sheet(technology, variant, 26, 96, 2_976, rng);
@@ -330,6 +375,8 @@ fn main() {
         } else if (technology, variant) == (2, 2) {
             let archive = file(&[dated(plant)], &Layout::PLAIN, rng).bytes;
             row("solar Pauschal, dated", &settle(repetitions, &versions, &archive, 2_976), 2_976.0);
+        } else if variant == 2 {
+            october_rows(technology, &plant, 2_976.0);
         }
     }
 
@@ -341,6 +388,8 @@ fn main() {
         if (technology, variant) == (2, 2) {
             let archive = file(&[dated(plant)], &Layout::PLAIN, rng).bytes;
             row("solar Pauschal, dated", &settle(repetitions, &versions, &archive, 4), 1.0);
+        } else if variant == 2 {
+            october_rows(technology, &plant, 1.0);
         }
     }
 

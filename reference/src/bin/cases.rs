@@ -10,12 +10,12 @@
 //! and taking back's of the later archive, show's of its part, whose length is the count. Delivery day has the quarter
 //! as its first number, the holidays in place of the record, 4 bytes each, and the day as its count.
 
-use reference::archive::{used, DATE, RECORD};
+use reference::archive::{used, DATE, NONAVAILABLE, RECORD};
 use reference::builder::*;
 use reference::calendar::{first_day, LAST};
 use reference::generate::{self, Call, NUMBERS, SETTLED};
 use reference::rng::Rng;
-use reference::settle::{terms, Answer, Pairing};
+use reference::settle::{first_quarter, reading_places, terms, Answer, Pairing, OCTOBER};
 use reference::slips::{self, Of, Slip, FURTHER, SLIPS};
 use std::collections::BTreeMap;
 use std::fmt::Write;
@@ -79,6 +79,9 @@ fn reaches(archive: &[u8], list: &[i64], step: Step) -> Vec<String> {
             number("settle", right.0);
             if let (0, Some((pairing, direction, execution))) = (right.0, terms(archive, p, k)) {
                 reached.push(settled(pairing, direction, execution));
+                if first_quarter(archive, p, k).map_or(false, |first| !reading_places(pairing, first).is_empty()) {
+                    reached.push(since_october(pairing, direction, execution));
+                }
             }
             told(Of::Settle, |slip| settle(slip) != right)
         }
@@ -142,6 +145,10 @@ fn settled(pairing: Pairing, direction: u8, execution: u8) -> String {
     format!("{pairing:?} {} execution {execution}", if direction == 1 { "positive" } else { "negative" })
 }
 
+fn since_october(pairing: Pairing, direction: u8, execution: u8) -> String {
+    format!("{} since October 2026", settled(pairing, direction, execution))
+}
+
 const SHOWS: [&str; 3] = ["show: a record", "show: empty on 1", "show: empty from U on"];
 
 fn shows(archive: &[u8], number: u64) -> &'static str {
@@ -159,6 +166,11 @@ fn elsewhere(slip: Slip, of: Of) -> bool {
         || matches!(slip, ResultFirst | ResultLonger | ZeroedResult | RaggedPlace | ListWritten | DueWritten)
 }
 
+/// Pairings and directions whose readings request 3 reads.
+fn bounded() -> impl Iterator<Item = (Pairing, u8)> {
+    SETTLED.into_iter().filter(|&(pairing, _)| !reading_places(pairing, OCTOBER).is_empty())
+}
+
 /// Everything that has to be reached, and how often a generated call is taken for it.
 fn wanted() -> Vec<(String, u64)> {
     let mut wanted = Vec::new();
@@ -168,6 +180,9 @@ fn wanted() -> Vec<(String, u64)> {
     wanted.extend(SHOWS.map(|how| (how.to_string(), 4)));
     for (pairing, direction) in SETTLED {
         wanted.extend((1..=3).map(|execution| (settled(pairing, direction, execution), 4)));
+    }
+    for (pairing, direction) in bounded() {
+        wanted.extend((1..=3).map(|execution| (since_october(pairing, direction, execution), 2)));
     }
     for &(slip, of, _, _) in SLIPS {
         if !elsewhere(slip, of) {
@@ -275,9 +290,12 @@ impl Cases {
     }
 
     /// A plant filed record by record into a fresh archive, audited, settled and shown; the last records taken back, of
-    /// wind Spitz all of them.
+    /// wind Spitz all of them. Measures whose readings request 3 reads are from October 2026.
     fn filed(&mut self, pairing: Pairing, direction: u8, rng: &mut Rng) {
-        let sheet = sheet(pairing, direction, 7, rng);
+        let mut sheet = sheet(pairing, direction, 7, rng);
+        if !reading_places(pairing, OCTOBER).is_empty() {
+            sheet.measures[0].first = OCTOBER as u32;
+        }
         let measure = &sheet.measures[0];
         let size = RECORD * 18;
         let file = |cases: &mut Cases, owner, record: &[u8]| cases.run(&[], size, Append { owner, record });
@@ -309,8 +327,8 @@ impl Cases {
         self.run(&[], size, Audit);
     }
 
-    /// A chain of 2,975 to 2,978 quarters in every pairing, direction and execution; the last ones taken back, and those
-    /// beside record 256.
+    /// A chain of 2,975 to 2,978 quarters in every pairing, direction and execution, on both sides of October 2026; the
+    /// last ones taken back, and those beside record 256.
     fn long(&mut self, rng: &mut Rng) {
         let plant = sheet(Pairing::WindSpitz, 2, 2_975, rng);
         let quarter = quarter_record(&plant.measures[0].quarters[0], rng, true);
@@ -318,30 +336,43 @@ impl Cases {
         let (size, measure) = (filed.bytes.len(), filed.plants[0].measures[0].number);
         let settle = |places| Settle { p: 1, k: 1, places };
         let append = Append { owner: measure, record: &quarter };
+        let mut wide = quarter;
+        wide[NONAVAILABLE..NONAVAILABLE + 4].copy_from_slice(&1_000_000_001u32.to_le_bytes());
         self.run(&filed.bytes, size, settle(2_974));
         self.run(&[], size, settle(2_975));
         self.run(&[], size, append);
         self.run(&[], size, Audit);
         let at = RECORD * measure as usize;
+        let start = |archive: &[u8], pairing, direction, execution, first: u64| {
+            let mut start = archive[..at + RECORD].to_vec();
+            (start[RECORD + 1], start[RECORD + 2]) = numbers(pairing);
+            (start[at + 1], start[at + 2]) = (direction, execution);
+            start[at + DATE..at + DATE + 4].copy_from_slice(&(first as u32).to_le_bytes());
+            start
+        };
         for (pairing, direction) in SETTLED {
             for execution in 1..=3 {
-                let mut start = self.archive[..at + RECORD].to_vec();
-                (start[RECORD + 1], start[RECORD + 2]) = numbers(pairing);
-                (start[at + 1], start[at + 2]) = (direction, execution);
+                let start = start(&self.archive, pairing, direction, execution, 0);
+                self.run(&start, size, settle(2_976));
+            }
+        }
+        for (pairing, direction) in bounded() {
+            for (execution, first) in [(1, OCTOBER - 1), (1, OCTOBER), (2, OCTOBER), (3, OCTOBER)] {
+                let start = start(&self.archive, pairing, direction, execution, first);
                 self.run(&start, size, settle(2_976));
             }
         }
         // Solar Pauschal up to the calendar's end, a quarter too far, over edges of seasons and years, undated again.
         let before = |year, month| first_day(year, month).midnight().0 - 1_440;
         for first in [LAST.0 - 2_975, LAST.0 - 2_974, before(2026, 11), before(2028, 3), before(2027, 1), 0] {
-            let mut start = self.archive[..at + RECORD].to_vec();
-            (start[RECORD + 1], start[RECORD + 2]) = numbers(Pairing::SolarPauschal);
-            start[at + 1] = 2;
-            start[at + DATE..at + DATE + 4].copy_from_slice(&(first as u32).to_le_bytes());
+            let start = start(&self.archive, Pairing::SolarPauschal, 2, 3, first);
             self.run(&start, size, settle(2_976));
         }
-        self.run(&[], size, append);
+        // 8 comes before the 9 of a reading.
+        self.run(&[], size, Append { owner: measure, record: &wide });
         self.run(&[], size, settle(2_977));
+        let since = start(&self.archive, Pairing::WindPauschal, 2, 3, OCTOBER);
+        self.run(&since, size, settle(2_977));
         // The last quarter falls behind U: 2 comes before 8.
         let head = self.archive[..RECORD].to_vec();
         let mut fewer = head.clone();
@@ -385,6 +416,7 @@ fn sheet(pairing: Pairing, direction: u8, quarters: usize, rng: &mut Rng) -> Pla
         measured: rng.range(300_000, 1_900_000) as i32,
         weather: rng.range(40, 240) as i32,
     };
+    let reading = |rng: &mut Rng| if rng.chance(40) { i32::MAX } else { rng.range(-200_000, 2_000_000) as i32 };
     let quarter = |at: usize, rng: &mut Rng| Quarter {
         month: 1 + (at / 96 % 12) as u8,
         time: (at % 96) as u8,
@@ -392,6 +424,8 @@ fn sheet(pairing: Pairing, direction: u8, quarters: usize, rng: &mut Rng) -> Pla
         limit: rng.range(0, 900_000) as i32,
         weather: rng.range(20, 260) as i32,
         planned: rng.range(0, 2_000_000) as i32,
+        nonavailable: reading(rng),
+        adjusted: reading(rng),
     };
     let measure = Measure {
         direction,

@@ -1,14 +1,16 @@
 //! Runs generated calls on the reference alone and counts what they reach.
 //!
 //! Arguments: seed (1), count of calls (200000). Inputs for the program are a twentieth of that on top.
-//! Exit status 1 if a refusal number, a pairing or a slip was never reached, or a call made with one fault got
-//! another number.
+//! Exit status 1 if a refusal number, a pairing, a situation or a slip was never reached, or a call made with one fault
+//! got another number.
 
-use reference::archive::{field, link, record, used, FIRST, NEXT, SECOND};
+use reference::archive::{field, link, record, used, ADJUSTED, FIRST, NEXT, NONAVAILABLE, SECOND};
 use reference::calendar::{next_days, Date, Day, QuarterHour, LAST};
 use reference::filing::names;
 use reference::generate::{self, Call, NUMBERS, SETTLED};
-use reference::settle::{first_quarter, terms, Pairing};
+use reference::settle::{
+    before_quarters, first_quarter, quarters, reading_places, terms, Pairing, NONE, OCTOBER, POWER,
+};
 use reference::slips::{self, Of, Slip, SLIPS};
 use std::collections::BTreeMap;
 use std::env;
@@ -21,6 +23,7 @@ struct Tally {
     dated: BTreeMap<Pairing, u64>,
     late: BTreeMap<Pairing, u64>,
     beside: BTreeMap<u32, u64>,
+    october: BTreeMap<(String, usize), u64>,
     sizes: BTreeMap<&'static str, u64>,
     slips: Vec<u64>,
     unexpected: u64,
@@ -34,6 +37,10 @@ impl Tally {
 
     fn size(&mut self, what: &'static str, reached: bool) {
         *self.sizes.entry(what).or_default() += u64::from(reached);
+    }
+
+    fn october(&mut self, what: String, kind: usize, reached: bool) {
+        *self.october.entry((what, kind)).or_default() += u64::from(reached);
     }
 
     /// Counts every slip of a call that gives another outcome than the right reading.
@@ -82,6 +89,102 @@ fn late(tally: &mut Tally, pairing: Pairing, first: u64, places: usize, result: 
     tally.size("18 for the largest date", first == u64::from(u32::MAX));
     tally.size("18 with a list of no place", places == 0);
     tally.size("18 with a result part not of 24 bytes", result != 24);
+}
+
+/// Whose readings request 3 reads.
+const BOUNDED: [(Pairing, u8); 3] =
+    [(Pairing::WindPauschal, 2), (Pairing::OtherPauschal, 2), (Pairing::OtherPauschal, 1)];
+
+/// Readings at the ends of the range and beside 0; out of range, beside its ends, beside none, and the lowest.
+const EDGES: [i128; 5] = [-1_000_000_000, -1, 0, 1, 1_000_000_000];
+const WIDE: [i128; 4] = [-1_000_000_001, 1_000_000_001, NONE - 1, -NONE - 1];
+
+/// A measure on either side of October 2026 that settled, was refused with 9 or with 18.
+fn by_date(tally: &mut Tally, archive: &[u8], p: u64, k: u64, number: u32) -> Option<()> {
+    let ((pairing, direction, execution), first) = (terms(archive, p, k)?, first_quarter(archive, p, k)?);
+    let quarters = quarters(archive, p, k)?;
+    let wide = |quarter: &&[u8], at: usize| {
+        let power = field(quarter, at);
+        power != NONE && !POWER.contains(&power)
+    };
+    let any_wide = |at: usize| quarters.iter().any(|quarter| wide(quarter, at));
+    let kind = match BOUNDED.iter().position(|&bounded| bounded == (pairing, direction)) {
+        Some(kind) => kind,
+        None => {
+            let unread = number == 0 && first >= OCTOBER && any_wide(NONAVAILABLE) && any_wide(ADJUSTED);
+            for (other, what) in [
+                (Pairing::WindSpitz, "readings out of range from October 2026 on in wind Spitz"),
+                (Pairing::SolarSpitz, "readings out of range from October 2026 on in solar Spitz"),
+                (Pairing::SolarPauschal, "readings out of range from October 2026 on in solar Pauschal"),
+                (Pairing::OtherSpitz, "readings out of range from October 2026 on in other Spitz"),
+            ] {
+                tally.size(what, unread && pairing == other);
+            }
+            return Some(());
+        }
+    };
+    let places = reading_places(pairing, first);
+    let names = [(NONAVAILABLE, "nonavailability"), (ADJUSTED, "market adjustment")];
+    let mut count = |what: String, reached: bool| tally.october(what, kind, reached);
+    if number == 0 {
+        for edge in [OCTOBER - 1, OCTOBER, OCTOBER + 1] {
+            count(format!("settled from {edge} on"), first == edge);
+        }
+        let last = first + quarters.len() as u64 - 1;
+        count("settled from before 937,921 past it".into(), (1..OCTOBER).contains(&first) && last >= OCTOBER);
+        for own in 1..=3 {
+            count(format!("settled since October 2026 in execution {own}"), !places.is_empty() && execution == own);
+        }
+        for (at, name) in names {
+            let unread = !places.contains(&at) && any_wide(at);
+            count(format!("{name} out of range, undated"), unread && first == 0);
+            count(format!("{name} out of range, older"), unread && (1..OCTOBER).contains(&first));
+            // Wind reads both since then.
+            if kind > 0 && at == ADJUSTED {
+                count(format!("{name} out of range and not read"), unread && first >= OCTOBER);
+            }
+        }
+        let before = before_quarters(archive, p, k)?;
+        let carried = before.iter().find(|one| one[1] == 1).map_or(0, |one| field(one, 8));
+        for quarter in quarters.iter().filter(|_| !places.is_empty()) {
+            let (measured, limit) = (field(quarter, 8), field(quarter, 12));
+            let compared = match (direction, execution) {
+                (2, _) => carried,
+                (_, 1) => measured.min(limit),
+                _ => measured,
+            };
+            let there: Vec<i128> = places.iter().map(|&at| field(quarter, at)).filter(|&one| one != NONE).collect();
+            count("no reading there".into(), there.is_empty());
+            count("every reading there".into(), there.len() == places.len());
+            let above = there.iter().all(|&one| one > compared);
+            count("readings there, none the smallest".into(), !there.is_empty() && above);
+            for &at in places {
+                let name = names[usize::from(at == ADJUSTED)].1;
+                let own = field(quarter, at);
+                let alone = own != NONE && own < compared && there.iter().filter(|&&one| one <= own).count() == 1;
+                count(format!("{name} the smallest"), alone);
+                count(format!("{name} the smallest and below 0"), alone && own < 0);
+                count(format!("{name} alone there"), own != NONE && there.len() == 1);
+                for edge in EDGES {
+                    count(format!("{name} of {edge}"), own == edge);
+                }
+            }
+        }
+    }
+    for &at in places {
+        let name = names[usize::from(at == ADJUSTED)].1;
+        for value in WIDE {
+            let found = quarters.iter().any(|quarter| field(quarter, at) == value);
+            count(format!("9 with {name} of {value}"), number == 9 && found);
+        }
+        let refused = number == 9 && any_wide(at);
+        for own in 1..=3 {
+            count(format!("9 with {name} out of range in execution {own}"), refused && execution == own);
+        }
+        count(format!("9 with {name} out of range, first quarter past 3,506,400"), refused && first > LAST.0);
+    }
+    count("18 with readings in range".into(), number == 18 && !places.iter().any(|&at| any_wide(at)));
+    Some(())
 }
 
 /// A quarter of the calendar and its list.
@@ -239,6 +342,9 @@ fn one_call(tally: &mut Tally, seed: u64, index: u64) {
                 if first > LAST.0 {
                     *tally.beside.entry(number).or_default() += 1;
                 }
+            }
+            if matches!(number, 0 | 9 | 18) {
+                by_date(tally, &archive, p, k, number);
             }
             tally.size("places beyond 32 bits", p >> 32 != 0 || k >> 32 != 0);
             tally.size("result parts of 0 bytes", result.is_empty());
@@ -421,6 +527,19 @@ fn main() -> ExitCode {
         }
     }
     println!();
+
+    println!("\nReadings of October 2026: wind, other negative, other positive (- where it can't be)");
+    let mut rows: BTreeMap<&str, [Option<u64>; 3]> = BTreeMap::new();
+    for ((what, kind), &times) in &tally.october {
+        rows.entry(what).or_default()[*kind] = Some(times);
+    }
+    for (what, times) in &rows {
+        let shown: Vec<String> = times.iter().map(|one| one.map_or("-".into(), |times| times.to_string())).collect();
+        println!("  {what}: {}", shown.join(", "));
+        if times.contains(&Some(0)) && count >= 100_000 {
+            missed.push(format!("never for one of the three: {what}"));
+        }
+    }
 
     println!("\nOther situations");
     for (what, times) in &tally.sizes {

@@ -27,7 +27,7 @@ walk-requires c κs =
     let f = at-denominator .before .before in
     let s = f .before .before .before .before .before in
     let b = standing-at (s .pre .0) (s .pre .1) (f .found2 .given .1) in
-    (s .pre .0, (record { held = b .held; divides = at-denominator .denominator .ensures }, b .free))
+    (s .pre .0, (record { held = b .held; divides = at-denominator .denominator .ensures }, b .fits))
 
 enum-known-n : tie.Need-enum-known-n
 enum-known-n c = search needs

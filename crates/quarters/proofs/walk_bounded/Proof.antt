@@ -1,31 +1,34 @@
 -- `quarters::walk_bounded` meets its contract.
 use mathlib.Core.Path.{_∙_, ap}
-use mathlib.Core.List.{List}
+use mathlib.Core.List.{List, []}
 use mathlib.Core.Bool.{Bool, _&&_}
 use Prim.Native.Nat.{ℕ, _-_}
 use lib.Dec.{lit≤}
 use borrow.Author.Needs.{needs}
 use Rattle.rules.specs.Terms.{quarterOf}
+use Rattle.rules.specs.Reference as book
 use Rattle.rules.proofs.Parts.{start-fits, end-fits, end-within, start-end, part-size}
 use Rattle.rules.proofs.Chains.{record-part}
 use Rattle.chains.proofs.Laws.{Met, no-at, met, link-nearer}
 use Rattle.terms.specs.Meanings.{meaning}
+use Rattle.reference.specs.declared.Reference.the-variants.{LastMeasured}
 use Rattle.exact.specs.Exacts.{quarterAnswer}
+use Rattle.exact.proofs.Exacts.{read-from}
 use Rattle.quarters.proofs.Walks.{state, Going, going-starts, going-counts, going-on, walks-refused, walks-ended}
 use Rattle.quarters.proofs.walk_bounded.Statement.{statement}
 use Rattle.quarters.proofs.walk_bounded.Tie as tie
 
 abbrev Inv-loop : tie.InvT-loop
-Inv-loop archive bounding reference d powers sheet₀ used terms last₀ link₀ count₀ fine₀ sheet last link count fine =
-    Going archive used last₀ link₀ (meaning terms) reference powers sheet₀ last link (state count fine sheet)
+Inv-loop archive bounding p0 sheet₀ used terms last₀ link₀ count₀ fine₀ sheet last link count fine =
+    Going archive used last₀ link₀ (meaning terms) (LastMeasured p0) [] sheet₀ last link (state count fine sheet)
 
 abbrev μ-loop : tie.MeasureT-loop
-μ-loop archive bounding reference d powers sheet₀ used terms last₀ link₀ count₀ fine₀ sheet last link count fine =
+μ-loop archive bounding p0 sheet₀ used terms last₀ link₀ count₀ fine₀ sheet last link count fine =
     used - last
 
 -- the start, the turn, and the quarter that it meets
 abbrev entry : tie.At-loop Inv-loop μ-loop → tie.Start Inv-loop μ-loop
-entry c = c .before .before .before .before .before .before
+entry c = c .before .before .before .before .before
 
 abbrev turn : tie.After-known-told Inv-loop μ-loop → tie.At-loop Inv-loop μ-loop
 turn c = c .before .before .before .before .before
@@ -38,11 +41,11 @@ at-hand c =
 
 link-of-requires : tie.Need-link-of-requires Inv-loop μ-loop
 link-of-requires c κs =
-    let p = c .before .before .before .before .pre .0 in
+    let p = c .before .before .before .pre .0 in
     (end-within (p .measure-used) (p .room), lit≤ tt)
 
 loop-holds : tie.Need-loop-holds Inv-loop μ-loop
-loop-holds c = going-starts (c .before .before .before .before .before .pre .0 .measure-used)
+loop-holds c = going-starts (c .before .before .before .before .pre .0 .measure-used)
 
 follow-requires : tie.Need-follow-requires Inv-loop μ-loop
 follow-requires c κs = entry (c .before) .pre .0 .room
@@ -81,9 +84,7 @@ part-r-end : tie.Need-part-r-end Inv-loop μ-loop
 part-r-end c = end-within (at-hand c .below) (entry (turn c) .pre .0 .room)
 
 exact-bounded-requires : tie.Need-exact-bounded-requires Inv-loop μ-loop
-exact-bounded-requires c κs =
-    let p = entry (turn (c .before)) .pre in
-    (record { held = p .1 .0 .held; divides = p .1 .0 .divides; size = part-size _ (c .r .given .2) }, p .1 .1)
+exact-bounded-requires c κs = (part-size _ (c .r .given .2), entry (turn (c .before)) .pre .1)
 
 enter-requires : tie.Need-enter-requires Inv-loop μ-loop
 enter-requires c κs = search needs
@@ -112,7 +113,9 @@ loop-again c =
     let a = entry t .args in
     let terms = meaning (a .place .terms) in
     going-on (t .loop .inv) (x .exact-bounded .result) (at-hand n) (c .link-of2 .ensures .0)
-    (λ ref k. x .exact-bounded .ensures ref k ∙ ap (λ (r : List ℕ). quarterAnswer terms ref (quarterOf terms (t .loop .count) r)) (record-part (a .archive .now) _))
+    (λ ref k. rw k
+    (x .exact-bounded .ensures (quarterOf terms (t .loop .count) _) (read-from terms (t .loop .count) _)
+    ∙ ap (λ (r : List ℕ). quarterAnswer terms (book.lastMeasured (a .p0 .0)) (quarterOf terms (t .loop .count) r)) (record-part (a .archive .now) _)))
     (ap (λ (z : Bool). z && t .loop .fine) (e .enter .ensures .0)) (e .enter .ensures .1) (e .enter .kept .0)
 
 answer-at-end-requires : tie.Need-answer-at-end-requires Inv-loop μ-loop
@@ -124,7 +127,7 @@ same-length-2 c = c .before .before .loop .inv .size
 returns-2 : tie.Need-returns-2 Inv-loop μ-loop
 returns-2 c =
     let t = c .before .before in
-    walks-ended (entry t .args .place) (t .before .link-of .ensures .0) (t .loop .inv) (c .before .loop-test .left) (c .answer-at-end .ensures) (entry t .pre .1 .0 .held .bounded)
+    walks-ended (entry t .args .place) (t .before .link-of .ensures .0) (t .loop .inv) (c .before .loop-test .left) (c .answer-at-end .ensures) (entry t .pre .1 .0)
 
 pub walk-bounded-spec : {M : Type 1} → statement M
 walk-bounded-spec =

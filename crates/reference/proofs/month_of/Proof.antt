@@ -2,7 +2,7 @@
 use mathlib.Core.Path.{_∙_}
 use borrow.Author.Needs.{needs}
 use Rattle.terms.specs.Meanings.{meaning}
-use Rattle.reference.proofs.Times.{own-month}
+use Rattle.reference.proofs.Manners.{own-month}
 use Rattle.reference.proofs.month_of.Statement.{statement}
 use Rattle.reference.proofs.month_of.Tie as tie
 

@@ -2,7 +2,7 @@
 use native.Mathlib.Omega.{arith}
 use Rattle.rules.specs.Terms.{quarterOf}
 use Rattle.terms.specs.Meanings.{meaning}
-use Rattle.reference.proofs.Times.{clock-month, clock-quarter, clock-month-near, clock-near}
+use Rattle.reference.proofs.Manners.{clock-month, clock-quarter, clock-month-near, clock-near}
 use Rattle.reference.proofs.Referred.{referred-held}
 use Rattle.reference.proofs.numerator_by_date.Statement.{statement}
 use Rattle.reference.proofs.numerator_by_date.Tie as tie

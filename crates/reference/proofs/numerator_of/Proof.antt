@@ -4,7 +4,7 @@ use Rattle.rules.specs.Terms.{quarterOf}
 use Rattle.terms.specs.Meanings.{meaning}
 use Rattle.units.proofs.Laws.{back}
 use Rattle.reference.proofs.References.{bounded-told, held-told}
-use Rattle.reference.proofs.Times.{own-undated}
+use Rattle.reference.proofs.Manners.{own-undated}
 use Rattle.reference.proofs.Referred.{referred-told, referred-as, last-referred}
 use Rattle.reference.specs.declared.Numerator.the-variants as over
 use borrow.Author.Needs.{needs}

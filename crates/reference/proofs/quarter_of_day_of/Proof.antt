@@ -2,7 +2,7 @@
 use mathlib.Core.Path.{_∙_}
 use borrow.Author.Needs.{needs}
 use Rattle.terms.specs.Meanings.{meaning}
-use Rattle.reference.proofs.Times.{own-quarter}
+use Rattle.reference.proofs.Manners.{own-quarter}
 use Rattle.reference.proofs.quarter_of_day_of.Statement.{statement}
 use Rattle.reference.proofs.quarter_of_day_of.Tie as tie
 

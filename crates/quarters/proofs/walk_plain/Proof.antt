@@ -1,4 +1,4 @@
--- `quarters::walk_without_date` meets its contract.
+-- `quarters::walk_plain` meets its contract.
 use mathlib.Core.Path.{_∙_, ap}
 use mathlib.Core.List.{List}
 use mathlib.Core.Bool.{Bool, _&&_}
@@ -12,8 +12,8 @@ use Rattle.chains.proofs.Laws.{Met, no-at, met, link-nearer}
 use Rattle.terms.specs.Meanings.{meaning}
 use Rattle.exact.specs.Exacts.{quarterAnswer}
 use Rattle.quarters.proofs.Walks.{state, Going, going-starts, going-counts, going-on, walks-refused, walks-ended}
-use Rattle.quarters.proofs.walk_without_date.Statement.{statement}
-use Rattle.quarters.proofs.walk_without_date.Tie as tie
+use Rattle.quarters.proofs.walk_plain.Statement.{statement}
+use Rattle.quarters.proofs.walk_plain.Tie as tie
 
 abbrev Inv-loop : tie.InvT-loop
 Inv-loop archive reference d powers sheet₀ used terms last₀ link₀ count₀ fine₀ sheet last link count fine =
@@ -126,8 +126,8 @@ returns-2 c =
     let t = c .before .before in
     walks-ended (entry t .args .place) (t .before .link-of .ensures .0) (t .loop .inv) (c .before .loop-test .left) (c .answer-at-end .ensures) (entry t .pre .1 .0 .held .bounded)
 
-pub walk-without-date-spec : {M : Type 1} → statement M
-walk-without-date-spec =
+pub walk-plain-spec : {M : Type 1} → statement M
+walk-plain-spec =
     tie.close
     (tie.spec
     Inv-loop
