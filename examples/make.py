@@ -24,9 +24,13 @@ NEXT = 4  # the link to the next record of a chain
 FIRST = {PLANT: 8, POINT: 8, MEASURE: 12, BEFORE: 8, QUARTER: 12}
 
 
-def record(kind, byte1=0, byte2=0, at8=0, at12=0, at16=0, at20=0):
-    """32 bytes: kind, two bytes, a free byte, the next link (0), four signed numbers, 8 free bytes."""
-    return struct.pack("<4B5i8x", kind, byte1, byte2, 0, 0, at8, at12, at16, at20)
+# Quarter: no reading (bytes 24-27 and 28-31).
+NONE = 2_147_483_647
+
+
+def record(kind, byte1=0, byte2=0, at8=0, at12=0, at16=0, at20=0, at24=0, at28=0):
+    """32 bytes: kind, two bytes, a free byte, the next link (0), six signed numbers."""
+    return struct.pack("<4B7i", kind, byte1, byte2, 0, 0, at8, at12, at16, at20, at24, at28)
 
 
 class Archive:
@@ -65,8 +69,9 @@ class Archive:
     def before(self, measure, mark, measured, weather=0):
         return self.append(measure, record(BEFORE, mark, 0, at8=measured, at16=weather))
 
-    def quarter(self, measure, month, of_day, measured, limit=0, weather=0, planned=0):
-        return self.append(measure, record(QUARTER, month, of_day, measured, limit, weather, planned))
+    def quarter(self, measure, month, of_day, measured, limit=0, weather=0, planned=0, nonavailability=0, adjustment=0):
+        """The last two are read from October 2026 on, in wind and other Pauschal; 0 is a power there, NONE no reading."""
+        return self.append(measure, record(QUARTER, month, of_day, measured, limit, weather, planned, nonavailability, adjustment))
 
 
 def wind():
@@ -301,6 +306,48 @@ def dated():
     return a.bytes
 
 
+def october():
+    """A 2 MW wind plant and a 1 MW plant, other, both Pauschal, with measures on both sides of 1 October 2026, 0:00."""
+    a = Archive()
+
+    def measure(plant, direction, execution, first, reference, quarters, limit=0):
+        number = a.measure(plant, direction, execution, first)
+        a.before(number, FREE, reference)
+        for measured, nonavailability, adjustment in quarters:
+            a.quarter(number, 0, 0, measured, limit, nonavailability=nonavailability, adjustment=adjustment)
+
+    wind = a.plant(WIND, PAUSCHAL, 2_000_000)
+    # the last quarter of September and the first of October: judged by the 2020 text, whatever bytes 24-31 hold
+    measure(wind, NEGATIVE, TOLERATED, 937_920, 1_200_003, [(400_000, 900_000, 800_000), (400_001, 1_000_000_001, -1)])
+    measure(wind, NEGATIVE, REQUESTED, 937_921, 1_200_003, [
+        (400_000, NONE, NONE),
+        (400_001, 900_002, NONE),
+        (399_000, NONE, 800_001),
+        (400_002, 700_001, 800_001),
+        (400_003, 900_002, 600_000),
+        (400_000, 1_300_000, 1_000_000_000),
+        (400_000, 0, NONE),
+    ], limit=400_000)
+    # P0 above Pn, and a bound above Pn; a plant that takes power, and a bound below 0
+    measure(wind, NEGATIVE, TOLERATED, 937_921, 2_500_000, [(300_001, 2_400_000, NONE), (-500_002, NONE, -100_001)])
+    measure(wind, NEGATIVE, TOLERATED, 937_921, 1_200_003, [(400_000, NONE, 1_000_000_001)])
+    other = a.plant(OTHER, PAUSCHAL, 1_000_000)
+    measure(other, NEGATIVE, TOLERATED, 937_919, 800_000, [(500_001, 0, 0), (500_001, 0, 0), (500_002, 0, 0)])
+    measure(other, NEGATIVE, TOLERATED, 937_921, 800_000, [(500_001, 0, 0), (500_001, 600_000, 0), (500_002, NONE, 1_000_000_001)])
+    measure(other, POSITIVE, REQUESTED, 937_920, 500_000, [(760_000, 650_001, NONE)], limit=700_000)
+    measure(other, POSITIVE, REQUESTED, 937_921, 500_000, [
+        (760_000, NONE, NONE),
+        (760_000, 650_001, 600_000),
+        (690_001, 750_000, 1_000_000_001),
+        (760_000, 400_000, NONE),
+    ], limit=700_000)
+    measure(other, POSITIVE, FIXED, 1_000_000, 500_000, [(760_000, 650_001, NONE)], limit=600_000)
+    for nonavailability in (1_000_000_001, NONE):  # past the calendar
+        measure(other, NEGATIVE, TOLERATED, 3_506_401, 800_000, [(500_000, nonavailability, 0)])
+    measure(other, NEGATIVE, TOLERATED, 0, 800_000, [(500_000, 600_000, 600_000)])  # no date
+    return a.bytes
+
+
 def plants():
     """Seven plants: refusals that the program passes over, a plant without measures, a kind that ends it."""
     a = Archive()
@@ -394,7 +441,7 @@ def shared():
 def main():
     directory = pathlib.Path(sys.argv[1])
     directory.mkdir(parents=True, exist_ok=True)
-    for make in (a, b, d, f, g, h, k, refused, wind, solar, other, positive, pauschal, plants, factors, dated, day, month, shared):
+    for make in (a, b, d, f, g, h, k, refused, wind, solar, other, positive, pauschal, plants, factors, dated, october, day, month, shared):
         (directory / (make.__name__ + ".archive")).write_bytes(make())
 
 
