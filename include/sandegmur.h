@@ -23,7 +23,7 @@
 /* The version of these declarations: the first number changes when a call or a number changes its meaning, the second
  * when something is added. */
 #define SANDEGMUR_VERSION_MAJOR 1
-#define SANDEGMUR_VERSION_MINOR 3
+#define SANDEGMUR_VERSION_MINOR 4
 
 #ifdef __cplusplus
 extern "C" {
@@ -68,8 +68,12 @@ enum {
  * first: quarter of_day of a day, 0 to 95, is 96 x (day - 1) + of_day + 1. 1 October 2026, day 9,771, begins with 937,921. */
 enum {
     SANDEGMUR_QUARTERS_OF_DAY = 96,
+    SANDEGMUR_OCTOBER_2026 = 937921, /* 1 October 2026, 0:00: measures from here on have the rules of October 2026 */
     SANDEGMUR_LAST_QUARTER = 3506400 /* 31 December 2099, 23:45 */
 };
+
+/* In place of a quarter's power while not available or after market adjustment: there is no such reading. */
+enum { SANDEGMUR_NO_READING = 2147483647 };
 
 /* Bytes of stack that are enough for a call. At a first call of the shared library the dynamic linker may take some more. */
 enum {
@@ -133,6 +137,8 @@ enum {
     SANDEGMUR_QUARTER_LIMIT_AT = 12,
     SANDEGMUR_QUARTER_WEATHER_AT = 16,
     SANDEGMUR_QUARTER_PLANNED_AT = 20,
+    SANDEGMUR_QUARTER_NONAVAILABILITY_AT = 24,
+    SANDEGMUR_QUARTER_MARKET_ADJUSTMENT_AT = 28,
 
     SANDEGMUR_RESULT_COUNT_AT = 0,
     SANDEGMUR_RESULT_TOTAL_AT = 8,
@@ -262,7 +268,17 @@ static inline void sandegmur_before_quarter(uint8_t *record, uint8_t mark, int32
     sandegmur_put32(record + SANDEGMUR_BEFORE_QUARTER_WEATHER_AT, (uint32_t)weather);
 }
 
-/* of_day: 4 x hour + quarter of the hour, 0 to 95, in UTC+1 all year. */
+/* Powers of a quarter from which the rules of October 2026 choose: while part of the plant is not available, and after the market
+ * had it adjusted; each in W, or SANDEGMUR_NO_READING. They are read in wind Pauschal, the first one in other Pauschal too, of
+ * measures dated SANDEGMUR_OCTOBER_2026 or later. 0 is a power there: 0 W. */
+static inline void sandegmur_quarter_readings(uint8_t *record, int32_t nonavailability, int32_t market_adjustment)
+{
+    sandegmur_put32(record + SANDEGMUR_QUARTER_NONAVAILABILITY_AT, (uint32_t)nonavailability);
+    sandegmur_put32(record + SANDEGMUR_QUARTER_MARKET_ADJUSTMENT_AT, (uint32_t)market_adjustment);
+}
+
+/* of_day: 4 x hour + quarter of the hour, 0 to 95, in UTC+1 all year. Without readings of October 2026:
+ * sandegmur_quarter_readings, called afterwards, writes them. */
 static inline void sandegmur_quarter(uint8_t *record, uint8_t month, uint8_t of_day, int32_t measured, int32_t limit,
                                      int32_t weather, int32_t planned)
 {
@@ -273,6 +289,7 @@ static inline void sandegmur_quarter(uint8_t *record, uint8_t month, uint8_t of_
     sandegmur_put32(record + SANDEGMUR_QUARTER_LIMIT_AT, (uint32_t)limit);
     sandegmur_put32(record + SANDEGMUR_QUARTER_WEATHER_AT, (uint32_t)weather);
     sandegmur_put32(record + SANDEGMUR_QUARTER_PLANNED_AT, (uint32_t)planned);
+    sandegmur_quarter_readings(record, SANDEGMUR_NO_READING, SANDEGMUR_NO_READING);
 }
 
 /* What a number that a call returned says, in English. */

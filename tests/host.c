@@ -122,7 +122,9 @@ static void test_records(void)
     static const uint8_t before[] = { 4, 1, 0, 0, 0, 0, 0, 0, 0xff, 0xff, 0xff, 0xff, 0, 0, 0, 0, 0xd0, 7, 0, 0, 0, 0, 0, 0, 0, 0,
                                       0, 0, 0, 0, 0, 0 };
     static const uint8_t quarter[] = { 5, 12, 95, 0, 0, 0, 0, 0, 0xff, 0xff, 0xff, 0x7f, 0, 0, 0, 0x80, 5, 6, 7, 8, 0xfe, 0xff,
-                                       0xff, 0xff, 0, 0, 0, 0, 0, 0, 0, 0 };
+                                       0xff, 0xff, 0xff, 0xff, 0xff, 0x7f, 0xff, 0xff, 0xff, 0x7f };
+    static const uint8_t readings[] = { 5, 12, 95, 0, 0, 0, 0, 0, 0xff, 0xff, 0xff, 0x7f, 0, 0, 0, 0x80, 5, 6, 7, 8, 0xfe, 0xff,
+                                        0xff, 0xff, 0xfd, 0xff, 0xff, 0xff, 9, 8, 7, 6 };
     uint8_t record[SANDEGMUR_RECORD_BYTES + 1];
     memset(record, FILL, sizeof record);
     sandegmur_plant(record, SANDEGMUR_SOLAR, SANDEGMUR_SPITZ, 1000000);
@@ -144,6 +146,10 @@ static void test_records(void)
     CHECK(memcmp(record, before, SANDEGMUR_RECORD_BYTES) == 0);
     memset(record, FILL, sizeof record);
     sandegmur_quarter(record, 12, 95, INT32_MAX, INT32_MIN, 0x08070605, -2);
+    CHECK(memcmp(record, quarter, SANDEGMUR_RECORD_BYTES) == 0);
+    sandegmur_quarter_readings(record, -3, 0x06070809);
+    CHECK(memcmp(record, readings, SANDEGMUR_RECORD_BYTES) == 0);
+    sandegmur_quarter_readings(record, SANDEGMUR_NO_READING, SANDEGMUR_NO_READING);
     CHECK(memcmp(record, quarter, SANDEGMUR_RECORD_BYTES) == 0);
     CHECK(record[SANDEGMUR_RECORD_BYTES] == FILL);
 }
@@ -476,6 +482,70 @@ static void test_late(void)
     }
 }
 
+/* One quarter of Pauschal with readings that bound the reference power, 800,000, or the limitation value: an amount or a refusal,
+ * which leaves every byte. A quarter filed without readings is settled as before. */
+static void test_october(void)
+{
+    enum { OLD = SANDEGMUR_OCTOBER_2026 - 1, NEW = SANDEGMUR_OCTOBER_2026, NO = SANDEGMUR_NO_READING, OUT = 1000000001 };
+    enum { BYTES = 5 * SANDEGMUR_RECORD_BYTES };
+    static const struct {
+        uint8_t technology, direction;
+        uint32_t first;
+        int32_t measured, nonavailability, market_adjustment;
+        uint32_t number;
+        int64_t amount;
+    } cases[] = {
+        { SANDEGMUR_WIND, SANDEGMUR_NEGATIVE, OLD, 300000, 500000, 400000, 0, 125000 },
+        { SANDEGMUR_WIND, SANDEGMUR_NEGATIVE, NEW, 300000, 500000, 400000, 0, 25000 },
+        { SANDEGMUR_WIND, SANDEGMUR_NEGATIVE, NEW, 300000, 400000, 500000, 0, 25000 },
+        { SANDEGMUR_WIND, SANDEGMUR_NEGATIVE, NEW, 300000, 500000, NO, 0, 50000 },
+        { SANDEGMUR_WIND, SANDEGMUR_NEGATIVE, NEW, 300000, NO, NO, 0, 125000 },
+        { SANDEGMUR_WIND, SANDEGMUR_NEGATIVE, NEW, -300000, -100000, NO, 0, 50000 },
+        { SANDEGMUR_WIND, SANDEGMUR_NEGATIVE, NEW, 300000, OUT, 0, SANDEGMUR_OUT_OF_RANGE, 0 },
+        { SANDEGMUR_WIND, SANDEGMUR_NEGATIVE, NEW, 300000, 0, -OUT, SANDEGMUR_OUT_OF_RANGE, 0 },
+        { SANDEGMUR_WIND, SANDEGMUR_NEGATIVE, NEW, 300000, NO - 1, NO, SANDEGMUR_OUT_OF_RANGE, 0 },
+        { SANDEGMUR_WIND, SANDEGMUR_NEGATIVE, OLD, 300000, OUT, OUT, 0, 125000 },
+        { SANDEGMUR_WIND, SANDEGMUR_NEGATIVE, 0, 300000, OUT, OUT, 0, 125000 },
+        { SANDEGMUR_WIND, SANDEGMUR_NEGATIVE, UINT32_MAX, 300000, NO, OUT, SANDEGMUR_OUT_OF_RANGE, 0 },
+        { SANDEGMUR_WIND, SANDEGMUR_NEGATIVE, UINT32_MAX, 300000, NO, NO, SANDEGMUR_NOT_IN_CALENDAR, 0 },
+        { SANDEGMUR_OTHER, SANDEGMUR_NEGATIVE, OLD, 300000, 500000, 400000, 0, 125000 },
+        { SANDEGMUR_OTHER, SANDEGMUR_NEGATIVE, NEW, 300000, 500000, 400000, 0, 50000 },
+        { SANDEGMUR_OTHER, SANDEGMUR_NEGATIVE, NEW, 300000, NO, OUT, 0, 125000 },
+        { SANDEGMUR_OTHER, SANDEGMUR_NEGATIVE, NEW, 300000, -OUT, NO, SANDEGMUR_OUT_OF_RANGE, 0 },
+        { SANDEGMUR_OTHER, SANDEGMUR_POSITIVE, OLD, 900000, 860000, NO, 0, -25000 },
+        { SANDEGMUR_OTHER, SANDEGMUR_POSITIVE, NEW, 900000, 860000, OUT, 0, -15000 },
+        { SANDEGMUR_OTHER, SANDEGMUR_POSITIVE, NEW, 900000, 600000, NO, 0, 0 },
+        { SANDEGMUR_OTHER, SANDEGMUR_POSITIVE, NEW, 900000, OUT, NO, SANDEGMUR_OUT_OF_RANGE, 0 },
+    };
+    uint8_t archive[BYTES], was[BYTES], list[LIST], result[RESULT], record[SANDEGMUR_RECORD_BYTES];
+    for (size_t i = 0; i < sizeof cases / sizeof cases[0]; i++) {
+        CHECK(sandegmur_fresh(archive, BYTES) == SANDEGMUR_NOT_REFUSED);
+        sandegmur_plant(record, cases[i].technology, SANDEGMUR_PAUSCHAL, 1000000);
+        CHECK(file(archive, BYTES, 0, record) == SANDEGMUR_NOT_REFUSED);
+        sandegmur_dated_measure(record, cases[i].direction, SANDEGMUR_TOLERATED, cases[i].first);
+        CHECK(file(archive, BYTES, 1, record) == SANDEGMUR_NOT_REFUSED);
+        sandegmur_before_quarter(record, SANDEGMUR_MARKED, 800000, 0);
+        CHECK(file(archive, BYTES, 2, record) == SANDEGMUR_NOT_REFUSED);
+        sandegmur_quarter(record, 0, 0, cases[i].measured, 0, 0, 0);
+        sandegmur_quarter_readings(record, cases[i].nonavailability, cases[i].market_adjustment);
+        CHECK(file(archive, BYTES, 2, record) == SANDEGMUR_NOT_REFUSED);
+        memcpy(was, archive, BYTES);
+        memset(list, FILL, LIST);
+        memset(result, FILL, RESULT);
+        CHECK(settle(archive, BYTES, 1, 1, list, LIST, result, SANDEGMUR_RESULT_BYTES) == cases[i].number);
+        if (cases[i].number == SANDEGMUR_NOT_REFUSED) {
+            CHECK(sandegmur_amount(list) == cases[i].amount);
+            check_result(result, 1, cases[i].amount, 4);
+        } else {
+            CHECK(all_are(list, 0, SANDEGMUR_PLACE_BYTES, FILL));
+            CHECK(all_are(result, 0, SANDEGMUR_RESULT_BYTES, FILL));
+        }
+        CHECK(all_are(list, SANDEGMUR_PLACE_BYTES, LIST, FILL));
+        CHECK(all_are(result, SANDEGMUR_RESULT_BYTES, RESULT, FILL));
+        CHECK(memcmp(archive, was, BYTES) == 0);
+    }
+}
+
 /* The call with a copy of the list between two other numbers, and the day between two others: these, the list and, if it is
  * refused, the day stay. */
 static void check_delivery(uint64_t quarter, const uint32_t *holidays, size_t count, uint32_t number, uint64_t day)
@@ -794,6 +864,7 @@ int main(void)
     test_show();
     test_dated();
     test_late();
+    test_october();
     test_delivery_days();
     test_blocks();
     test_delivery_blocks();

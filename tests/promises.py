@@ -64,10 +64,18 @@ PHRASES = (
     "32 bytes, in the lent block at 32 × number",
     "64 KiB",
     "65,536 bytes and one more",
-    "1,000,000 calls of seed 2 with the code of landing 5, of seed 5 with that of landing 8, of seed 6 with that of landing 9, and 800 inputs of seed 7",
+    "1,000,000 calls of seed 2 with the code of landing 5, of seed 5 with that of landing 8, of seed 6 with that of landing 9, of seed 8 with that of landing 10, and 800 inputs of seed 7",
     "the pages of landing 5",
     "the pages of landing 8",
     "from those of landing 9",
+    "rules of October 2026",
+    "from those of landing 10",
+    "| request 3 | wind",
+    "bounds of 0 and below",
+    "9 beside 13 and 18",
+    "from October 2026 on",
+    "the 2020 text",
+    "takes 2,147,483,647 as it is",
     "| request 2 | an append",
     "| request 2 | of a sound archive",
     "| request 2 | filings",
@@ -91,7 +99,7 @@ CLAUSE = re.compile(r"^    (requires|ensures) (.*?)(?=^    (?:requires|ensures) 
 ROW = re.compile(r"^\|(?!---)(.*)\|$", re.M)
 TABLE = re.compile(r"(?<=\n\| Crate \| Text changed in \| Labels \|\n\|---\|---\|---\|\n)(?:\|.*\n)+")
 FIXED = [(phrase, re.compile(re.escape(phrase).replace(r"\ ", r"\s+"))) for phrase in PHRASES]
-STATEMENTS = ("rules/specs/Demands.antt", "rules/specs/Figures.antt", "rules/specs/DateFigures.antt", "rules/specs/TakeBackFigures.antt")
+STATEMENTS = ("rules/specs/Demands.antt", "rules/specs/Figures.antt", "rules/specs/DateFigures.antt", "rules/specs/TakeBackFigures.antt", "rules/specs/OctoberFigures.antt")
 
 
 class Function(NamedTuple):
