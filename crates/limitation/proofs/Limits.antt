@@ -1,6 +1,6 @@
 -- The limitation value by direction and execution, over plain variables.
 use mathlib.Core.Path.{_≡_, refl, _∙_, ap₂}
-use mathlib.Core.Bool.{true, false}
+use mathlib.Core.Bool.{false}
 use mathlib.Core.List.{[], _∷_}
 use lib.IntN.{ℤ}
 use Rattle.rules.specs.declared.Direction.{Direction}

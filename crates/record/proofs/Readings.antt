@@ -1,6 +1,6 @@
 -- A reading in a record, as the code tests and compares it, over plain variables.
 use mathlib.Core.Path.{_≡_, refl, sym, _∙_, ap}
-use mathlib.Core.Bool.{Bool, true, false, cond, not, _||_, and-true, or-true, or-false}
+use mathlib.Core.Bool.{Bool, true, false, cond, not, _||_, or-true, or-false}
 use mathlib.Core.List.{List, [], _∷_}
 use Prim.Native.Nat.{ℕ, _≤_}
 use native.Mathlib.Omega.{arith}
@@ -10,7 +10,7 @@ use lib.IntN.{ℤ, pos, negsuc}
 use lib.Signed.{leZ, mag}
 use Rattle.rules.specs.Numbers.{smaller}
 use Rattle.rules.specs.Archive.{linkAt, twos, fieldAt}
-use Rattle.rules.specs.Terms.{isPower, Reading, none, of, readingAt}
+use Rattle.rules.specs.Terms.{isPower, none, of, readingAt}
 use Rattle.rules.specs.October.{boundedBy, readingAllowed}
 use Rattle.rules.proofs.Ints.{smaller-yes}
 use Rattle.units.specs.declared.Watt.{Watt}

@@ -10,11 +10,10 @@ use lib.Dec.{T, leb, leb→le, ltb→lt}
 use lib.IntN.{ℤ, pos, negsuc, _*ℤ_}
 use lib.Signed.{leZ, leZ-yes, mag}
 use lib.ListN.{length, length-map}
-use Rattle.rules.specs.Outcome.{given}
 use Rattle.rules.specs.Numbers.{all, keep, sum, orZero, smaller, larger}
 use Rattle.rules.specs.Archive.{Entry, byteAt, fieldAt}
 use Rattle.rules.specs.Terms.{Technology, wind, solar, other, Variant, spitz, pauschal, Direction, positive, negative, Execution, requested, tolerated, fixed}
-use Rattle.rules.specs.Terms.{isPower, isSpeed, isIrradiance, isMarked, isNominalPower, plantAllowed, Terms, termsOf, Point, Before, Reading, none as absent, of, Quarter, beforeOf, pointOf, pointAllowed}
+use Rattle.rules.specs.Terms.{isPower, isSpeed, isIrradiance, isMarked, plantAllowed, Terms, Point, Before, Reading, none as absent, of, Quarter, beforeOf, pointOf, pointAllowed}
 use Rattle.rules.specs.October.{Bounding, boundingOf, referenceBounds, limitationBounds, over, smallest, readingAllowed}
 use Rattle.rules.specs.Reference.{limitation, limitOf, referenceOf, curvePower, FactorRow, factorRows, isSummer, isFor, firstFor, plantFactor}
 use Rattle.rules.specs.Reference.{Reference, onCurve, lastMeasured, onIrradiance, byFactor, asPlanned, denominator, numerator, magnitude, exactOf}

@@ -135,7 +135,7 @@ either P true f g = f tt
 either P false f g = g tt
 
 -- a fact of both that each case proves
-smaller-case : (P : ℤ → Type 0) (a b : ℤ) → (a ≤ℤ b → P a) → (b ≤ℤ a → P b) → P (smaller a b)
+pub smaller-case : (P : ℤ → Type 0) (a b : ℤ) → (a ≤ℤ b → P a) → (b ≤ℤ a → P b) → P (smaller a b)
 unfolding smaller
 smaller-case P a b f g = either P (leZ a b) (λ t. f (leZ-yes t)) (λ t. g (not-le a b t))
 

@@ -1,7 +1,9 @@
--- Laws of the rules of October 2026, over plain numbers: a bound rises with the number that it bounds, and is no larger than the two.
-use mathlib.Core.Path.{_≡_, refl}
+-- Laws of the rules of October 2026: the smallest of a number and readings is one of them and none is below it; it rises with the number, and
+-- is as small as they are. Where T isn't P0, nothing is bounded.
+use mathlib.Core.Path.{_≡_, refl, sym, _∙_, ap, subst}
 use mathlib.Core.Bool.{Bool, true, false, cond}
-use mathlib.Core.List.{List, [], _∷_, map}
+use mathlib.Core.List.{List, [], _∷_, map, List·Memᴰ, List·Memᴰ·head, List·Memᴰ·tail, List·Memᴰ·cases-cons, List·Memᴰ·not-nil}
+use mathlib.Core.Logic.{_⊎_, inl, inr}
 use Prim.Native.Nat.{ℕ, _+_, _*_, _≤_, _<_}
 use native.Mathlib.Nat.{mul-le-mul-right}
 use native.Mathlib.Omega.{arith}
@@ -14,21 +16,59 @@ use Rattle.rules.specs.October.{unbounded, isSinceOctober, boundingBy, b
 use Rattle.rules.specs.Reference.{limitation, Reference, lastMeasured, numerator, limitOf, referenceOf}
 use Rattle.rules.specs.Settle.{Place, Basis, firstMarked, pauschalBasis, basisBy, basisOf, boundsReadable}
 use Rattle.rules.proofs.Inversion.{Holds, holds-refused, holds-bind, holds-require, holds-given, All, none as no-more, more}
-use Rattle.rules.proofs.Ints.{parts-le, orZero-times, under-times, mag-parts, smaller-mono}
+use Rattle.rules.proofs.Ints.{parts-le, ≤ℤ-trans, orZero-times, under-times, mag-parts, smaller-case, smaller-mono}
 use Rattle.rules.proofs.Ranges.{within-signed}
 use Rattle.rules.proofs.Sound.{both}
+
+-- ---- it is the smallest
+
+same-le : (a : ℤ) → a ≤ℤ a
+same-le a = parts-le a a (omega arith)
+
+bounded-below : (r : Reading) (n : ℤ) → boundedBy r n ≤ℤ n
+bounded-below none n = same-le n
+bounded-below (of power) n = smaller-case (λ z. z ≤ℤ n) n power (λ h. same-le n) (λ h. h)
+
+pub smallest-below : (rs : List Reading) (n : ℤ) → smallest n rs ≤ℤ n
+smallest-below [] n = same-le n
+smallest-below (r ∷ rs) n = ≤ℤ-trans (smallest-below rs (boundedBy r n)) (bounded-below r n)
+
+pub smallest-below-reading : (rs : List Reading) (n power : ℤ) → List·Memᴰ (of power) rs → smallest n rs ≤ℤ power
+smallest-below-reading [] n power m = absurd (List·Memᴰ·not-nil m)
+smallest-below-reading (r ∷ rs) n power m = go (List·Memᴰ·cases-cons m) (smallest-below-reading rs (boundedBy r n) power)
+  where
+    go : (of power ≡ r) ⊎ List·Memᴰ (of power) rs → (List·Memᴰ (of power) rs → smallest (boundedBy r n) rs ≤ℤ power) → smallest (boundedBy r n) rs ≤ℤ power
+    go (inl e) rest = ≤ℤ-trans (smallest-below rs (boundedBy r n)) (subst (λ x. boundedBy x n ≤ℤ power) e (smaller-case (λ z. z ≤ℤ power) n power (λ h. h) (λ h. same-le power)))
+    go (inr k) rest = rest k
+
+pub smallest-among : (rs : List Reading) (n : ℤ) → (smallest n rs ≡ n) ⊎ List·Memᴰ (of (smallest n rs)) rs
+smallest-among [] n = inl refl
+smallest-among (r ∷ rs) n = go (smallest-among rs (boundedBy r n)) r refl
+  where
+    go : (smallest (boundedBy r n) rs ≡ boundedBy r n) ⊎ List·Memᴰ (of (smallest (boundedBy r n) rs)) rs → (x : Reading) → r ≡ x
+        → (smallest (boundedBy r n) rs ≡ n) ⊎ List·Memᴰ (of (smallest (boundedBy r n) rs)) (r ∷ rs)
+    go (inr m) x e = inr (List·Memᴰ·tail m)
+    go (inl i) none e = inl (i ∙ ap (λ x. boundedBy x n) e)
+    go (inl i) (of power) e = either (smaller-case (λ z. (z ≡ n) ⊎ (z ≡ power)) n power (λ h. inl refl) (λ h. inr refl))
+      where
+        is : smallest (boundedBy r n) rs ≡ smaller n power
+        is = i ∙ ap (λ x. boundedBy x n) e
+
+        either : (smaller n power ≡ n) ⊎ (smaller n power ≡ power) → (smallest (boundedBy r n) rs ≡ n) ⊎ List·Memᴰ (of (smallest (boundedBy r n) rs)) (r ∷ rs)
+        either (inl k) = inl (is ∙ k)
+        either (inr k) = inr (List·Memᴰ·head (ap of (is ∙ k) ∙ sym e))
 
 -- ---- it rises
 
 bounded-mono : (r : Reading) {a b : ℤ} → a ≤ℤ b → boundedBy r a ≤ℤ boundedBy r b
 bounded-mono none h = h
-bounded-mono (of power) h = smaller-mono h (parts-le power power (omega arith))
+bounded-mono (of power) h = smaller-mono h (same-le power)
 
 pub smallest-mono : (rs : List Reading) {a b : ℤ} → a ≤ℤ b → smallest a rs ≤ℤ smallest b rs
 smallest-mono [] h = h
 smallest-mono (r ∷ rs) h = smallest-mono rs (bounded-mono r h)
 
--- ---- it is no larger
+-- ---- it is as small
 
 -- a reading no further away from 0
 abbrev pub Low : ℕ → Reading → Type 0

@@ -4,7 +4,7 @@ use Prim.Native.Nat.{ℕ, _-_, _^_}
 use mathlib.Core.List.{List, [], _∷_, _++_}
 use lib.IntN.{ℤ, pos, negℤ}
 use Rattle.rules.specs.Settle.{settle}
-use Rattle.rules.specs.Figures.{head, plant, measure, before, quarter, withWord, minus, settling, settles, settlesOne, settlesA, refuses, number}
+use Rattle.rules.specs.Figures.{head, plant, measure, before, quarter, withWord, minus, settling, settles, settlesOne, settlesA, number}
 use Rattle.rules.specs.Figures.{caseA, caseB, caseD, caseE, caseG, factorCase}
 
 -- the last first quarter that is judged by the 2020 text, and the first one by the rules of October 2026
