@@ -268,17 +268,7 @@ static inline void sandegmur_before_quarter(uint8_t *record, uint8_t mark, int32
     sandegmur_put32(record + SANDEGMUR_BEFORE_QUARTER_WEATHER_AT, (uint32_t)weather);
 }
 
-/* Powers of a quarter from which the rules of October 2026 choose: while part of the plant is not available, and after the market
- * had it adjusted; each in W, or SANDEGMUR_NO_READING. They are read in wind Pauschal, the first one in other Pauschal too, of
- * measures dated SANDEGMUR_OCTOBER_2026 or later. 0 is a power there: 0 W. */
-static inline void sandegmur_quarter_readings(uint8_t *record, int32_t nonavailability, int32_t market_adjustment)
-{
-    sandegmur_put32(record + SANDEGMUR_QUARTER_NONAVAILABILITY_AT, (uint32_t)nonavailability);
-    sandegmur_put32(record + SANDEGMUR_QUARTER_MARKET_ADJUSTMENT_AT, (uint32_t)market_adjustment);
-}
-
-/* of_day: 4 x hour + quarter of the hour, 0 to 95, in UTC+1 all year. Without readings of October 2026:
- * sandegmur_quarter_readings, called afterwards, writes them. */
+/* of_day: 4 x hour + quarter of the hour, 0 to 95, in UTC+1 all year. Both readings of October 2026 are none. */
 static inline void sandegmur_quarter(uint8_t *record, uint8_t month, uint8_t of_day, int32_t measured, int32_t limit,
                                      int32_t weather, int32_t planned)
 {
@@ -289,7 +279,18 @@ static inline void sandegmur_quarter(uint8_t *record, uint8_t month, uint8_t of_
     sandegmur_put32(record + SANDEGMUR_QUARTER_LIMIT_AT, (uint32_t)limit);
     sandegmur_put32(record + SANDEGMUR_QUARTER_WEATHER_AT, (uint32_t)weather);
     sandegmur_put32(record + SANDEGMUR_QUARTER_PLANNED_AT, (uint32_t)planned);
-    sandegmur_quarter_readings(record, SANDEGMUR_NO_READING, SANDEGMUR_NO_READING);
+    sandegmur_put32(record + SANDEGMUR_QUARTER_NONAVAILABILITY_AT, SANDEGMUR_NO_READING);
+    sandegmur_put32(record + SANDEGMUR_QUARTER_MARKET_ADJUSTMENT_AT, SANDEGMUR_NO_READING);
+}
+
+/* Writes bytes 24-31 alone, into a record that sandegmur_quarter has written: what the plant could still feed in while part of it
+ * was not available, and what it would have fed in after the market had it adjusted, each in W or SANDEGMUR_NO_READING. The rules
+ * of October 2026 read them: both in wind Pauschal, the first in other Pauschal too, of measures dated SANDEGMUR_OCTOBER_2026 or
+ * later. 0 is a power there: 0 W. */
+static inline void sandegmur_quarter_readings(uint8_t *record, int32_t nonavailability, int32_t market_adjustment)
+{
+    sandegmur_put32(record + SANDEGMUR_QUARTER_NONAVAILABILITY_AT, (uint32_t)nonavailability);
+    sandegmur_put32(record + SANDEGMUR_QUARTER_MARKET_ADJUSTMENT_AT, (uint32_t)market_adjustment);
 }
 
 /* What a number that a call returned says, in English. */

@@ -527,7 +527,8 @@ static void test_october(void)
         sandegmur_before_quarter(record, SANDEGMUR_MARKED, 800000, 0);
         CHECK(file(archive, BYTES, 2, record) == SANDEGMUR_NOT_REFUSED);
         sandegmur_quarter(record, 0, 0, cases[i].measured, 0, 0, 0);
-        sandegmur_quarter_readings(record, cases[i].nonavailability, cases[i].market_adjustment);
+        if (cases[i].nonavailability != NO || cases[i].market_adjustment != NO)
+            sandegmur_quarter_readings(record, cases[i].nonavailability, cases[i].market_adjustment);
         CHECK(file(archive, BYTES, 2, record) == SANDEGMUR_NOT_REFUSED);
         memcpy(was, archive, BYTES);
         memset(list, FILL, LIST);

@@ -16,7 +16,7 @@ use Rattle.rules.specs.Settle.{readable}
 use Rattle.rules.proofs.Ints.{times-one}
 use Rattle.rules.proofs.October.{unbounded-limit, unbounded-reference, unbounded-readable}
 use Rattle.rules.proofs.Bounds as bounds
-use Rattle.rules.proofs.Bounds.{limit-small, numerator-small, smallest-small}
+use Rattle.rules.proofs.Bounds.{limit-small, numerator-small}
 use Rattle.units.specs.declared.Watt.{Watt}
 use Rattle.record.specs.declared.Power.{Power}
 use Rattle.record.specs.declared.Power.the-variants as power
@@ -107,7 +107,3 @@ module _ (terms : Terms) (p0 : ℤ) (q : Quarter) where
           → exact.Of m ≡ quarterAnswer terms onP0 q
       unfolding limitOf
       bounded-is h e = answer-is terms onP0 q (rw (limited .0, ← is, lowest .0, h .0)) refl e (lowest .1 ∙ lowest-is) (h .1 ∙ rw (is, limited .1))
-
--- the smallest of a power and readings is a power
-pub smallest-low : (rs : List Reading) (n : ℤ) {p : Watt} → mag n ≤ 1000000000 → SmallestOf rs n (power.Of p) → mag (p .0) ≤ 1000000000
-smallest-low rs n h k = subst (λ (z : ℤ). mag z ≤ 1000000000) (sym (k .1)) (smallest-small rs n h (k .0))

@@ -1,23 +1,18 @@
 -- The limitation value by direction and execution, over plain variables.
-use mathlib.Core.Path.{_≡_, refl, _∙_, ap₂}
+use mathlib.Core.Path.{_≡_, _∙_, ap₂}
 use mathlib.Core.Bool.{false}
-use mathlib.Core.List.{[], _∷_}
 use lib.IntN.{ℤ}
 use Rattle.rules.specs.declared.Direction.{Direction}
 use Rattle.rules.specs.declared.Direction.the-variants.{Positive as positive, Negative as negative}
 use Rattle.rules.specs.declared.Execution.{Execution}
 use Rattle.rules.specs.declared.Execution.the-variants.{Requested as requested, Tolerated as tolerated, Fixed as fixed}
-use Rattle.rules.specs.declared.Bounding.{Bounding}
-use Rattle.rules.specs.declared.Bounding.the-variants.{LimitationByNonavailability as limitationByNonavailability}
 use Rattle.rules.specs.Numbers.{smaller, larger}
-use Rattle.rules.specs.Terms.{Terms, Reading, Quarter}
-use Rattle.rules.specs.October.{limitationBounds}
+use Rattle.rules.specs.Terms.{Terms}
 use Rattle.rules.specs.Reference.{limitation}
 use Rattle.rules.specs.Settle.{limitReadable}
 use Rattle.units.specs.declared.Watt.{Watt}
-use Rattle.record.specs.declared.Power.{Power}
 use Rattle.record.specs.declared.Power.the-variants as power
-use Rattle.record.specs.Powers.{PowerOf, SmallestOf}
+use Rattle.record.specs.Powers.{PowerOf}
 use Rattle.limitation.specs.Limits.{LimitedTo}
 
 module _ (s : Direction) (x : Execution) (m l : ℤ) where
@@ -64,13 +59,3 @@ module _ (terms : Terms) (measured limit : ℤ) where
       pub limited-requested : (l n : Watt) → PowerOf limit (power.Of l) → n .0 ≡ limitation (terms .direction) (terms .execution) (m .0) (l .0)
           → LimitedTo terms measured limit (power.Of n)
       limited-requested l n k i = (rw (asked, h .0, k .0), i ∙ ap₂ (limitation (terms .direction) (terms .execution)) (h .1) (k .1))
-
--- ---- with the reading that bounds L
-
-module _ (q : Quarter) {b : Bounding} where
-  pub limit-free : (l : Watt) {x : Bounding} → b ≡ x → limitationBounds x q ≡ [] → SmallestOf (limitationBounds b q) (l .0) (power.Of l)
-  limit-free l told e = rw (told, e) (refl, refl)
-
-  pub limit-bounded : (l : ℤ) (p : Power) {x : Reading} → b ≡ limitationByNonavailability → q .nonavailability ≡ x → SmallestOf (x ∷ []) l p
-      → SmallestOf (limitationBounds b q) l p
-  limit-bounded l p told is h = rw (told, is) h

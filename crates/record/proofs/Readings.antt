@@ -1,5 +1,5 @@
 -- A reading in a record, as the code tests and compares it, over plain variables.
-use mathlib.Core.Path.{_≡_, refl, sym, _∙_, ap}
+use mathlib.Core.Path.{_≡_, refl, sym, _∙_, ap, subst}
 use mathlib.Core.Bool.{Bool, true, false, cond, not, _||_, or-true, or-false}
 use mathlib.Core.List.{List, [], _∷_}
 use Prim.Native.Nat.{ℕ, _≤_}
@@ -10,10 +10,12 @@ use lib.IntN.{ℤ, pos, negsuc}
 use lib.Signed.{leZ, mag}
 use Rattle.rules.specs.Numbers.{smaller}
 use Rattle.rules.specs.Archive.{linkAt, twos, fieldAt}
-use Rattle.rules.specs.Terms.{isPower, none, of, readingAt}
+use Rattle.rules.specs.Terms.{isPower, Reading, none, of, readingAt}
 use Rattle.rules.specs.October.{boundedBy, readingAllowed}
 use Rattle.rules.proofs.Ints.{smaller-yes}
+use Rattle.rules.proofs.Bounds.{smallest-small}
 use Rattle.units.specs.declared.Watt.{Watt}
+use Rattle.record.specs.declared.Power.{Power}
 use Rattle.record.specs.declared.Power.the-variants as power
 use Rattle.record.specs.Powers.{SmallestOf}
 
@@ -60,3 +62,16 @@ module _ (r : List ℕ) (at : ℕ) where
     pub bound-in-range : (a n : Watt) → mag (a .0) ≤ 1000000000 → n .0 ≡ smaller (a .0) (p .0) → not (t || eqb word 2147483647) ≡ false
         → SmallestOf (readingAt r at ∷ []) (a .0) (power.Of n)
     bound-in-range a n h k e = (rw (sym allowed-is ∙ not-false _ e), k ∙ ap (smaller (a .0)) field-is ∙ sym (bound-is (a .0) h))
+
+-- ---- the smallest of a power and readings
+
+-- it is the power, where there is no reading to compare
+pub smallest-alone : {rs : List Reading} (a : Watt) → rs ≡ [] → SmallestOf rs (a .0) (power.Of a)
+smallest-alone a e = rw e (refl, refl)
+
+pub smallest-as : {rs ss : List Reading} (n : ℤ) (p : Power) → rs ≡ ss → SmallestOf ss n p → SmallestOf rs n p
+smallest-as n p e h = rw e h
+
+-- it is a power
+pub smallest-power : (rs : List Reading) (n : ℤ) {p : Watt} → mag n ≤ 1000000000 → SmallestOf rs n (power.Of p) → mag (p .0) ≤ 1000000000
+smallest-power rs n h k = subst (λ (z : ℤ). mag z ≤ 1000000000) (sym (k .1)) (smallest-small rs n h (k .0))

@@ -1,4 +1,4 @@
--- What goes along with a measure's quarters; and their time, month and quarter of the day, from a quarter's own bytes or by its clock.
+-- How a measure's quarters are walked; and their time, month and quarter of the day, from a quarter's own bytes or by its clock.
 use mathlib.Core.Path.{_≡_, refl, sym, _∙_, ap}
 use mathlib.Core.Bool.{Bool, true, false, cond}
 use mathlib.Core.List.{List}
@@ -22,7 +22,7 @@ use Rattle.reference.specs.declared.Reference.{Reference}
 use Rattle.reference.specs.declared.Reference.the-variants.{OnCurve, LastMeasured, OnIrradiance, ByFactor, AsPlanned}
 use Rattle.reference.specs.declared.Manner.{Manner}
 use Rattle.reference.specs.declared.Manner.the-variants.{Plain, ByDate, Bounded}
-use Rattle.reference.specs.Manners.{boundedBy, mannerOf, Fits, Shows}
+use Rattle.reference.specs.Manners.{mannerOnP0, mannerOf, Fits, Shows}
 
 -- ---- the manner
 
@@ -32,13 +32,13 @@ manner-told terms told e = e ∙ ap (λ (r : Reference). mannerOf r terms) (sym 
 
 module _ (p0 : Watt) (terms : Terms) {b : Bounding} (is : b ≡ boundingOf terms) where
   pub manner-unbounded : b ≡ Unbounded → Plain ≡ mannerOf (LastMeasured p0) terms
-  manner-unbounded e = ap (λ (x : Bounding). boundedBy x p0) (sym e ∙ is)
+  manner-unbounded e = ap (λ (x : Bounding). mannerOnP0 x p0) (sym e ∙ is)
 
   -- the `else` of `let Bounding::Unbounded = bounding`
   pub manner-bounded : (tagOf (declared enum) b ≡ 1) ⊎ ((tagOf (declared enum) b ≡ 2) ⊎ (tagOf (declared enum) b ≡ 3)) → Bounded b p0 ≡ mannerOf (LastMeasured p0) terms
-  manner-bounded w = go b w ∙ ap (λ (x : Bounding). boundedBy x p0) is
+  manner-bounded w = go b w ∙ ap (λ (x : Bounding). mannerOnP0 x p0) is
     where
-      go : (x : Bounding) → (tagOf (declared enum) x ≡ 1) ⊎ ((tagOf (declared enum) x ≡ 2) ⊎ (tagOf (declared enum) x ≡ 3)) → Bounded x p0 ≡ boundedBy x p0
+      go : (x : Bounding) → (tagOf (declared enum) x ≡ 1) ⊎ ((tagOf (declared enum) x ≡ 2) ⊎ (tagOf (declared enum) x ≡ 3)) → Bounded x p0 ≡ mannerOnP0 x p0
       go Unbounded (inl e) = absurd (omega arith)
       go Unbounded (inr (inl e)) = absurd (omega arith)
       go Unbounded (inr (inr e)) = absurd (omega arith)
@@ -56,19 +56,19 @@ module _ (pn : Watt) (terms : Terms) where
 -- ---- what a manner says
 
 -- what P0 comes with, by its bounding
-bounded-plain : (b : Bounding) (p0 : Watt) → Plain ≡ boundedBy b p0 → Unbounded ≡ b
+bounded-plain : (b : Bounding) (p0 : Watt) → Plain ≡ mannerOnP0 b p0 → Unbounded ≡ b
 bounded-plain Unbounded p0 e = refl
 bounded-plain ReferenceByBoth p0 e = let z : _≡_ {A = ℕ} 0 1 = cc in absurd (omega arith)
 bounded-plain ReferenceByNonavailability p0 e = let z : _≡_ {A = ℕ} 0 1 = cc in absurd (omega arith)
 bounded-plain LimitationByNonavailability p0 e = let z : _≡_ {A = ℕ} 0 1 = cc in absurd (omega arith)
 
-bounded-dated : (b : Bounding) (p0 : Watt) {pn : Watt} → ByDate pn ≡ boundedBy b p0 → ⊥
+bounded-dated : (b : Bounding) (p0 : Watt) {pn : Watt} → ByDate pn ≡ mannerOnP0 b p0 → ⊥
 bounded-dated Unbounded p0 e = let z : _≡_ {A = ℕ} 0 1 = cc in omega arith
 bounded-dated ReferenceByBoth p0 e = let z : _≡_ {A = ℕ} 0 1 = cc in omega arith
 bounded-dated ReferenceByNonavailability p0 e = let z : _≡_ {A = ℕ} 0 1 = cc in omega arith
 bounded-dated LimitationByNonavailability p0 e = let z : _≡_ {A = ℕ} 0 1 = cc in omega arith
 
-bounded-bounded : (b : Bounding) {x : Bounding} {p0 p : Watt} → Bounded x p ≡ boundedBy b p0 → (LastMeasured p0 ≡ LastMeasured p) × (x ≡ b)
+bounded-bounded : (b : Bounding) {x : Bounding} {p0 p : Watt} → Bounded x p ≡ mannerOnP0 b p0 → (LastMeasured p0 ≡ LastMeasured p) × (x ≡ b)
 bounded-bounded Unbounded e = let z : _≡_ {A = ℕ} 0 1 = cc in absurd (omega arith)
 bounded-bounded ReferenceByBoth {x} {p0} {p} e = let i : p ≡ p0 = cc in let k : x ≡ ReferenceByBoth = cc in (ap LastMeasured (sym i), k)
 bounded-bounded ReferenceByNonavailability {x} {p0} {p} e = let i : p ≡ p0 = cc in let k : x ≡ ReferenceByNonavailability = cc in (ap LastMeasured (sym i), k)

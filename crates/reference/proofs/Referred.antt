@@ -6,16 +6,13 @@ use Prim.Native.Nat.{ℕ, _≤_, _<_, _^_}
 use borrow.Author.Tests.{le-leb, lt-leb}
 use lib.IntN.{ℤ, pos, _*ℤ_}
 use lib.Signed.{mag}
-use Rattle.rules.specs.declared.Bounding.{Bounding}
-use Rattle.rules.specs.declared.Bounding.the-variants.{ReferenceByBoth as referenceByBoth, ReferenceByNonavailability as referenceByNonavailability}
 use Rattle.rules.specs.Numbers.{orZero, smaller}
 use Rattle.rules.specs.Terms.{isPower, isSpeed, isIrradiance, Point, Reading, Quarter}
-use Rattle.rules.specs.October.{referenceBounds, boundedBy, readingAllowed}
+use Rattle.rules.specs.October.{boundedBy, readingAllowed}
 use Rattle.rules.specs.Reference as book
 use Rattle.rules.specs.Reference.{curvePower, plantFactor, numerator}
 use Rattle.rules.specs.Settle.{referenceReadable}
 use Rattle.rules.proofs.Ranges.{within-natural}
-use Rattle.rules.proofs.Bounds.{smallest-small}
 use Rattle.units.specs.declared.Watt.{Watt}
 use Rattle.units.specs.declared.Irradiance.{Irradiance}
 use Rattle.units.proofs.Laws.{held, back}
@@ -85,24 +82,10 @@ referred-as ref q n e h = subst (λ (r : book.Reference). ReferredTo r q n) (sym
 first-of : (x y : Reading) {t : Bool} → (readingAllowed x && true) ≡ t → (readingAllowed x && (readingAllowed y && true)) ≡ (t && (readingAllowed y && true))
 first-of x y e = ap (λ (a : Bool). a && (readingAllowed y && true)) (sym (and-true (readingAllowed x)) ∙ e)
 
-module _ (q : Quarter) {b : Bounding} where
-  pub lowest-free : (t : Watt) {x : Bounding} → b ≡ x → referenceBounds x q ≡ [] → SmallestOf (referenceBounds b q) (t .0) (power.Of t)
-  lowest-free t told e = rw (told, e) (refl, refl)
+module _ (t : ℤ) (x y : Reading) where
+  pub lowest-first : SmallestOf (x ∷ []) t power.OutOfRange → SmallestOf (x ∷ y ∷ []) t power.OutOfRange
+  lowest-first h = first-of x y h
 
-  pub lowest-one : (t : ℤ) (p : Power) {x : Reading} → b ≡ referenceByNonavailability → q .nonavailability ≡ x → SmallestOf (x ∷ []) t p
-      → SmallestOf (referenceBounds b q) t p
-  lowest-one t p told is h = rw (told, is) h
-
-  module _ (t : ℤ) {x : Reading} (told : b ≡ referenceByBoth) (first : q .nonavailability ≡ x) where
-    pub lowest-first : SmallestOf (x ∷ []) t power.OutOfRange → SmallestOf (referenceBounds b q) t power.OutOfRange
-    lowest-first h = rw (told, first) (first-of x (q .marketAdjustment) h)
-
-    pub lowest-both : {y : Reading} {n : Watt} (p : Power) → q .marketAdjustment ≡ y → SmallestOf (x ∷ []) t (power.Of n) → SmallestOf (y ∷ []) (n .0) p
-        → SmallestOf (referenceBounds b q) t p
-    lowest-both {y} (power.Of m) second h k =
-        rw (told, first, second) (first-of x y (h .0) ∙ k .0, k .1 ∙ ap (boundedBy y) (h .1))
-    lowest-both {y} power.OutOfRange second h k = rw (told, first, second) (first-of x y (h .0) ∙ k)
-
--- the smaller of a power and a reading is a power
-pub lowest-small : (t : ℤ) (x : Reading) (n : Watt) → mag t ≤ 1000000000 → SmallestOf (x ∷ []) t (power.Of n) → mag (n .0) ≤ 1000000000
-lowest-small t x n h k = subst (λ (z : ℤ). mag z ≤ 1000000000) (sym (k .1)) (smallest-small (x ∷ []) t h (k .0))
+  pub lowest-both : {n : Watt} (p : Power) → SmallestOf (x ∷ []) t (power.Of n) → SmallestOf (y ∷ []) (n .0) p → SmallestOf (x ∷ y ∷ []) t p
+  lowest-both (power.Of m) h k = (first-of x y (h .0) ∙ k .0, k .1 ∙ ap (boundedBy y) (h .1))
+  lowest-both power.OutOfRange h k = first-of x y (h .0) ∙ k

@@ -1,4 +1,4 @@
--- What goes along with the quarters of a measure, and the clock of a quarter where the date does.
+-- How a measure's quarters are walked, and the clock of a quarter where that goes by the date.
 use Prim.Native.Nat.{ℕ, _≤_}
 use mathlib.Core.Path.{_≡_}
 use mathlib.Core.Bool.{cond}
@@ -16,21 +16,21 @@ use Rattle.reference.specs.declared.Manner.{Manner}
 use Rattle.reference.specs.declared.Manner.the-variants.{Plain, ByDate, Bounded}
 
 -- P0 with what bounds it or L
-abbrev pub boundedBy : Bounding → Watt → Manner
-boundedBy Unbounded p0 = Plain
-boundedBy ReferenceByBoth p0 = Bounded ReferenceByBoth p0
-boundedBy ReferenceByNonavailability p0 = Bounded ReferenceByNonavailability p0
-boundedBy LimitationByNonavailability p0 = Bounded LimitationByNonavailability p0
+abbrev pub mannerOnP0 : Bounding → Watt → Manner
+mannerOnP0 Unbounded p0 = Plain
+mannerOnP0 ReferenceByBoth p0 = Bounded ReferenceByBoth p0
+mannerOnP0 ReferenceByNonavailability p0 = Bounded ReferenceByNonavailability p0
+mannerOnP0 LimitationByNonavailability p0 = Bounded LimitationByNonavailability p0
 
 -- Pauschal of wind and other plants has readings that bound, where the measure has them; solar Pauschal alone reads the date, where there is one
 abbrev pub mannerOf : Reference → Terms → Manner
 mannerOf (OnCurve a b pn curve) terms = Plain
-mannerOf (LastMeasured p0) terms = boundedBy (boundingOf terms) p0
+mannerOf (LastMeasured p0) terms = mannerOnP0 (boundingOf terms) p0
 mannerOf (OnIrradiance a b) terms = Plain
 mannerOf (ByFactor pn) terms = cond (eqb (terms .first) 0) Plain (ByDate pn)
 mannerOf AsPlanned terms = Plain
 
--- a reference of other pairings comes with terms that bound nothing
+-- a reference other than P0 comes with terms that bound nothing
 abbrev pub Fits : Reference → Terms → Type 0
 Fits (OnCurve a b pn curve) terms = Unbounded ≡ boundingOf terms
 Fits (LastMeasured p0) terms = Unit {0}

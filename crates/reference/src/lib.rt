@@ -74,8 +74,8 @@ fn quarter_of_day_of(terms: Terms, index: u64, r: &[u8]) -> u64
     byte_at(r, 2)
 }
 
-// What goes along with the quarters of a measure: nothing; the date, in solar Pauschal that has one (document 02, 1); readings that bound T or L,
-// in wind and other Pauschal from October 2026 on (document 02, 3).
+// How a measure's quarters are walked: plainly; by the date, in solar Pauschal that has one (document 02, 1); with readings that bound T or
+// L, in Pauschal of wind and other plants from October 2026 on (document 02, 3).
 pub enum Manner {
     Plain,
     // Pn
@@ -224,7 +224,7 @@ pub fn numerator_by_date(pn: Watt, terms: Terms, index: u64, clock: Clock, r: &[
 
 // ---- with the readings that bound T from October 2026 on (document 02, 3)
 
-// P0 in wind Pauschal by both readings, in other Pauschal, negative, by nonavailability.
+// T, which is P0, as they bound it: in wind Pauschal both, in other Pauschal, negative, nonavailability.
 pub fn lowest(bounding: Bounding, p0: Watt, r: &[u8]) -> Power
     requires { ⌜ length (now r) ≡ 32 ⌝ }
     requires { ⌜ mag (p0 .0) ≤ 1000000000 ⌝ }

@@ -88,10 +88,10 @@ pub under-times : (a : ℤ) (n : ℕ) → under (a *ℤ pos n) ≡ under a * n
 under-times (pos a) n = sym (zero-mul n)
 under-times (negsuc a) n = under-neg (pos (suc a * n))
 
--- the same without a difference, so that omega makes no case of it: for equations and orders between whole numbers
 pub times-one : (a : ℤ) → a *ℤ pos 1 ≡ a
 times-one a = parts-eq (a *ℤ pos 1) a (omega (arith, orZero-times a 1, under-times a 1))
 
+-- the same without a difference, so that omega makes no case of it: for equations and orders between whole numbers
 pub sub-parts : (a b : ℕ) → orZero (subℕ a b) + b ≡ a + under (subℕ a b)
 sub-parts a b = omega (arith, orZero-sub a b, under-sub a b)
 

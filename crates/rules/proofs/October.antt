@@ -1,5 +1,5 @@
 -- Laws of the rules of October 2026: the smallest of a number and readings is one of them and none is below it; it rises with the number, and
--- is as small as they are. Where T isn't P0, nothing is bounded.
+-- is no further from 0 than they are. Where T isn't P0, nothing is bounded.
 use mathlib.Core.Path.{_≡_, refl, sym, _∙_, ap, subst}
 use mathlib.Core.Bool.{Bool, true, false, cond}
 use mathlib.Core.List.{List, [], _∷_, map, List·Memᴰ, List·Memᴰ·head, List·Memᴰ·tail, List·Memᴰ·cases-cons, List·Memᴰ·not-nil}
@@ -68,7 +68,7 @@ pub smallest-mono : (rs : List Reading) {a b : ℤ} → a ≤ℤ b → smallest 
 smallest-mono [] h = h
 smallest-mono (r ∷ rs) h = smallest-mono rs (bounded-mono r h)
 
--- ---- it is as small
+-- ---- it is no further from 0
 
 -- a reading no further away from 0
 abbrev pub Low : ℕ → Reading → Type 0
@@ -107,7 +107,7 @@ pub smallest-over : (d top : ℕ) (n : ℤ) (rs : List Reading) → 1000000000 *
     → mag (smallest n (map (over d) rs)) ≤ top
 smallest-over d top n rs room h e = smallest-low (map (over d) rs) n top h (over-low d top room rs e)
 
--- ---- where the bounding is a measure's own
+-- ---- where nothing is bounded
 
 module _ (terms : Terms) (q : Quarter) (free : boundingOf terms ≡ unbounded) where
   pub unbounded-limit : limitOf terms q ≡ limitation (terms .direction) (terms .execution) (q .measured) (q .limit)

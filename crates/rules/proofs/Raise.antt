@@ -80,8 +80,8 @@ module _ (a b : List ℕ) (g : Agree a b) (used kind : ℕ) where
 
 -- ---- the readings of the same quarter in both
 
-above-readings : (i : ℕ) → 15 < i → T (elsewhere i)
-above-readings i h = rw (lt-leb i 15 h, and-false (leb 8 i)) tt
+behind-limit : (i : ℕ) → 15 < i → T (elsewhere i)
+behind-limit i h = rw (lt-leb i 15 h, and-false (leb 8 i)) tt
 
 here : (n : ℕ) (ns : List ℕ) → member n (n ∷ ns) ≡ true
 here n ns = rw (eq-eqb n n refl)
@@ -90,13 +90,13 @@ there : (n m : ℕ) (ns : List ℕ) → member n ns ≡ true → member n (m ∷
 there n m ns k = rw k (or-true (eqb n m))
 
 module _ (a b : List ℕ) (p k : ℕ) (g : Agree a b) (raised : Raised a b p k) (terms : Terms) where
-  -- four bytes behind them
+  -- four bytes behind measured power and limit
   word-same : (n at : ℕ) → 15 < at → at < 29 → linkAt (recordAt a n) at ≡ linkAt (recordAt b n) at
   unfolding linkAt
   word-same n at low high = rw (same at low (omega arith), same (at + 1) (omega arith) (omega arith), same (at + 2) (omega arith) (omega arith), same (at + 3) (omega arith) (omega arith))
     where
       same : (i : ℕ) → 15 < i → i < 32 → byteAt (recordAt a n) i ≡ byteAt (recordAt b n) i
-      same i l h = g .outside n i h (above-readings i l)
+      same i l h = g .outside n i h (behind-limit i l)
 
   field-same : (n at : ℕ) → 15 < at → at < 29 → fieldAt (recordAt a n) at ≡ fieldAt (recordAt b n) at
   unfolding fieldAt

@@ -107,7 +107,7 @@ leaving archive places = listAfter (settle archive 1 1 places) (lent places)
 abbrev numberFor : List ℕ → ℕ → List ℤ
 numberFor archive places = number (settle archive 1 1 places)
 
-abbrev late : List ℤ
+abbrev pub late : List ℤ
 late = pos 18 ∷ []
 
 -- a, with no reading of nonavailability in its quarters (02, 3)

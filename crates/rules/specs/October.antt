@@ -1,4 +1,5 @@
--- The rules of October 2026 (02, 3; source 003): in Pauschal, readings of a quarter bound the reference power T or the limitation value L.
+-- The rules of October 2026 (02, 3; source 003): in Pauschal of wind and other plants, readings of a quarter bound the reference power T or
+-- the limitation value L.
 use Prim.Native.Nat.{ℕ}
 use mathlib.Core.Bool.{Bool, true, cond}
 use mathlib.Core.List.{List, [], _∷_}

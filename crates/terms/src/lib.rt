@@ -158,7 +158,7 @@ pub fn admit(plant: &[u8], measure: &[u8]) -> Admitted
 
 // ---- the rules of October 2026 (document 02, 3)
 
-// Number of the quarter-hour from 1 October 2026, 0:00, on.
+// Number of the first quarter-hour of 1 October 2026.
 const OCTOBER_2026: u64 = 937921;
 
 // What the readings of the measure's quarters bound. Its first quarter decides for all of them.

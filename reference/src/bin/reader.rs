@@ -1,6 +1,6 @@
 //! Reader of redispatch archives: settle, show, fresh, append, audit, the program, delivery day and take back.
-//! Written from docs/FORMAT.md and docs/RULES.md, version 1.3, alone ("F" and "R" below, with section numbers):
-//! F 1 to 17, and of R the rules, 1 to 6 and 13, and the worked numbers, 7, 8, 10 and 13.
+//! Written from docs/FORMAT.md and docs/RULES.md, version 1.4, alone ("F" and "R" below, with section numbers):
+//! F 1 to 17, and of R the rules, 1 to 6, 13 and 14, and the worked numbers, 7, 8, 10, 13 and 14.
 //!
 //! Build: rustc -O --edition 2021 reader.rs
 //! Standard input: cases, one after the other. Standard output: one line for each case.
@@ -48,6 +48,12 @@ const MOST_IRRADIANCE: i32 = 2_000;
 // Quarter numbers of the calendar end here; a day has so many (R 13).
 const LAST_QUARTER: u64 = 3_506_400;
 const QUARTERS_OF_A_DAY: u64 = 96;
+
+// Measures that begin with this quarter number or a later one, 1 October 2026, 0:00, are judged by R 14.
+const OCTOBER_2026: u64 = 937_921;
+
+// The number that says that there is no reading, in bytes 24-27 and 28-31 of a quarter (F 3).
+const NO_READING: i32 = 2_147_483_647;
 
 // ---------------------------------------------------------------- bytes and links (F 1, 2, 4)
 
@@ -223,7 +229,7 @@ fn delivery_day_c(quarter: u64, list: &[u8], lent: &mut [u8; 8]) -> u32 {
     }
 }
 
-// ---------------------------------------------------------------- settle (F 6, R 1 to 6)
+// ---------------------------------------------------------------- settle (F 6, R 1 to 6 and 14)
 
 struct Settled {
     amounts: Vec<i64>,
@@ -246,6 +252,19 @@ fn power(record: &[u8], at: usize) -> Result<i128, Refusal> {
 
 fn measured(record: &[u8]) -> Result<i128, Refusal> {
     power(record, 8)
+}
+
+/// A power or none; none is in range.
+fn power_or_none(record: &[u8], at: usize) -> Result<Option<i128>, Refusal> {
+    if signed(record, at) == NO_READING {
+        return Ok(None);
+    }
+    power(record, at).map(Some)
+}
+
+/// The smaller of a power and a bound; none is left out.
+fn bounded(power: i128, bound: Option<i128>) -> i128 {
+    bound.map_or(power, |bound| power.min(bound))
 }
 
 fn speed(record: &[u8]) -> Result<i128, Refusal> {
@@ -421,7 +440,7 @@ fn settle(bytes: &[u8], p: u64, k: u64) -> Result<Settled, Refusal> {
             let limit = power(quarter, 12)?;
             l = if direction == POSITIVE { l.min(limit) } else { l.max(limit) };
         }
-        let n = match pairing {
+        let mut n = match pairing {
             (WIND, SPITZ) => (before.a * curve_power(&curve, speed(quarter)?)).min(pn * before.b),
             (SOLAR, SPITZ) => before.a * irradiance(quarter)?,
             // By date, below: bytes 1 and 2 are not read (F 3), and the date is not tested yet.
@@ -436,6 +455,18 @@ fn settle(bytes: &[u8], p: u64, k: u64) -> Result<Settled, Refusal> {
             (OTHER, SPITZ) => power(quarter, 20)?,
             _ => before.a,
         };
+        // H bounds T, in the positive direction L; J bounds T of wind (R 14). The date itself is not tested yet.
+        if first >= OCTOBER_2026 && (pairing == (WIND, PAUSCHAL) || pairing == (OTHER, PAUSCHAL)) {
+            let h = power_or_none(quarter, 24)?;
+            if direction == POSITIVE {
+                l = bounded(l, h);
+            } else {
+                n = bounded(n, h);
+            }
+            if technology == WIND {
+                n = bounded(n, power_or_none(quarter, 28)?);
+            }
+        }
         powers.push((l, n));
     }
 
@@ -1456,6 +1487,248 @@ mod self_test {
         tests.same("R 13 dated, program", (printed(&bytes), expected.len()), (expected, 617));
     }
 
+    /// Each row of the table of R 1, by the 2020 text and by the rules of October 2026.
+    fn section_1_of_rules(tests: &mut Tests) {
+        // Pairing, direction; amounts in executions 1, 2 and 3 by either text, both with H and J filed.
+        type Row = (u8, u8, u8, [i64; 3], [i64; 3]);
+        let rows: [Row; 8] = [
+            (WIND, SPITZ, NEGATIVE, [10_000, 15_000, 15_000], [10_000, 15_000, 15_000]),
+            (WIND, PAUSCHAL, NEGATIVE, [10_000, 15_000, 15_000], [5_000, 10_000, 10_000]),
+            (SOLAR, SPITZ, NEGATIVE, [10_000, 15_000, 15_000], [10_000, 15_000, 15_000]),
+            (SOLAR, PAUSCHAL, NEGATIVE, [139_725, 144_725, 144_725], [139_725, 144_725, 144_725]),
+            (OTHER, SPITZ, NEGATIVE, [10_000, 15_000, 15_000], [10_000, 15_000, 15_000]),
+            (OTHER, SPITZ, POSITIVE, [-10_000, -15_000, -15_000], [-10_000, -15_000, -15_000]),
+            (OTHER, PAUSCHAL, NEGATIVE, [10_000, 15_000, 15_000], [7_500, 12_500, 12_500]),
+            (OTHER, PAUSCHAL, POSITIVE, [-10_000, -15_000, -15_000], [-7_500, -7_500, -7_500]),
+        ];
+        for (technology, variant, direction, text_2020, october) in rows {
+            // T is 100,000 (positive 20,000) before any bound, and Pn x 6,189 / 10,000 in solar Pauschal.
+            let (reference, measured, limit, h, j) = match direction {
+                POSITIVE => (20_000, 80_000, 60_000, 50_000, 30_000),
+                _ => (100_000, 40_000, 60_000, 90_000, 80_000),
+            };
+            let point = |speed: i64, power: i64| record(CURVE_POINT, 0, 0, &[(8, speed), (12, power)]);
+            let mut parts = vec![point(0, 0), point(1_000, 1_000_000)];
+            parts.extend(vec![before_quarter(reference, 500); 4]);
+            let readings = [(8, measured), (12, limit), (16, 500), (20, reference), (24, h), (28, j)];
+            parts.push(record(QUARTER, 7, 36, &readings));
+            for (execution, expected) in (1..).zip(text_2020.into_iter().zip(october)) {
+                let bytes = filed((technology, variant, 1_000_000), (direction, execution), &parts);
+                // No date; 1 July and 1 October 2026, 9:00.
+                let found = [0, 929_125, 937_957].map(|first| {
+                    let mut dated = bytes.clone();
+                    set(&mut dated, &[Number(2, 16, first)]);
+                    amounts(&dated)
+                });
+                let expected = [expected.0, expected.0, expected.1].map(|amount| vec![amount]);
+                let name = format!("R 1 {technology}, {variant}, direction {direction}, execution {execution}");
+                tests.same(&name, found, expected);
+            }
+        }
+    }
+
+    /// The rows 'October 2026' of F 15. In the archive for `b` the measure is record 2 and the quarter record 12.
+    fn section_15_october(tests: &mut Tests) {
+        let none = NO_READING as i64;
+        let k =
+            filed((WIND, PAUSCHAL, 2_000_000), (NEGATIVE, 2), &[before_quarter(100_000, 0), quarter(-20_000, 0, 0, 0)]);
+        // Date, bytes 24-27 and 28-31; the one amount, or the refusal number.
+        let rows = [
+            (937_920, 0, 0, Ok(30_000)),
+            (937_921, 0, 0, Ok(5_000)),
+            (937_921, none, none, Ok(30_000)),
+            (937_921, none, 60_000, Ok(20_000)),
+            (937_921, -1, none, Ok(4_999)),
+            (937_921, none, -10_001, Ok(2_499)),
+            (937_921, -1_000_000_000, none, Ok(0)),
+            (937_921, 1_000_000_000, 1_000_000_000, Ok(30_000)),
+            (937_921, -1_000_000_001, none, Err(9)),
+            (937_921, 1_000_000_001, 0, Err(9)),
+            (937_921, 0, 1_000_000_001, Err(9)),
+            (937_921, 2_147_483_646, 0, Err(9)),
+            (937_921, -2_147_483_648, 0, Err(9)),
+            (0, 1_000_000_001, 1_000_000_001, Ok(30_000)),
+            (3_506_401, 1_000_000_001, 0, Err(9)),
+            (2_147_483_648, 1_000_000_001, 0, Err(9)),
+            (2_147_483_648, 0, 0, Err(18)),
+        ];
+        for (first, h, j, expected) in rows {
+            let mut bytes = k.clone();
+            set(&mut bytes, &[Number(2, 16, first), Number(4, 24, h), Number(4, 28, j)]);
+            let found = settle(&bytes, 1, 1).map(|settled| (settled.amounts, settled.total, settled.links));
+            let expected = expected.map(|amount| (vec![amount], amount, 4));
+            tests.same(&format!("F 15 October 2026, k, date {first}, H {h}, J {j}"), found, expected);
+        }
+        let mut bytes = k;
+        set(&mut bytes, &[Number(2, 16, 937_921), Number(4, 24, 1_000_000_001)]);
+        tests.same("F 15 October 2026, 9 before 13", from_c(&bytes, 0, 24), (9, vec![], vec![0xee; 24]));
+
+        let a = hex(CASE_A);
+        let d = filed((OTHER, SPITZ, 1_000_000), (NEGATIVE, 1), &[quarter(400_000, 600_000, 0, 1_000_000)]);
+        let b = wind(2_000_000, &vec![before_quarter(900_000, 20); 4], &[quarter(350_000, 0, 30, 0)]);
+        let mut parts = vec![before_quarter(300_000, 500); 3];
+        parts.push(quarter(80_000, 0, 800, 0));
+        let g = filed((SOLAR, SPITZ, 1_000_000), (NEGATIVE, 2), &parts);
+        let h = filed((SOLAR, PAUSCHAL, 1_000_000), (NEGATIVE, 2), &[solar_quarter(7, 35), solar_quarter(7, 36)]);
+        let mut parts = vec![quarter(1_000, 0, 0, 3_000); 2_977];
+        parts.push(before_quarter(0, 0));
+        let month = filed((OTHER, PAUSCHAL, 1_000_000), (NEGATIVE, 2), &parts);
+        let in_4_to_6 = |at: usize, value: i64| [4, 5, 6].map(|record| Number(record, at, value));
+        let unread = |record: usize| vec![Number(record, 24, 1_000_000_001), Number(record, 28, 1_000_000_001)];
+        type Row<'a> = (&'a str, &'a [u8], i64, Vec<Set>, Result<Vec<i64>, Refusal>);
+        let rows: Vec<Row> = vec![
+            ("a", &a, 937_919, vec![], Ok(vec![74_999, 75_000, 75_000])),
+            ("a, zeros", &a, 937_921, vec![], Ok(vec![0, 0, 0])),
+            (
+                "a, no H, J too large",
+                &a,
+                937_921,
+                [in_4_to_6(24, none), in_4_to_6(28, 1_000_000_001)].concat(),
+                Ok(vec![74_999, 75_000, 75_000]),
+            ),
+            (
+                "a, H in quarter 2",
+                &a,
+                937_921,
+                [&in_4_to_6(24, none)[..], &[Number(5, 24, 500_004)]].concat(),
+                Ok(vec![74_999, 1, 75_000]),
+            ),
+            ("a, positive", &a, 937_921, vec![Byte(2, 1, 1), Number(6, 24, 1_000_000_001)], Err(9)),
+            (
+                "d, positive",
+                &d,
+                937_921,
+                vec![Byte(2, 1, 1), Number(3, 8, 700_000), Number(3, 20, 500_000)],
+                Ok(vec![-25_000]),
+            ),
+            ("d", &d, 937_921, unread(3), Ok(vec![100_000])),
+            ("b", &b, 937_921, unread(12), Ok(vec![250_000])),
+            ("g", &g, 937_921, unread(6), Ok(vec![100_000])),
+            ("h", &h, 937_956, unread(3), Ok(vec![61_400, 154_725])),
+            ("month", &month, 937_921, vec![Number(2_979, 24, 1_000_000_001)], Err(8)),
+        ];
+        for (name, bytes, first, changes, expected) in rows {
+            let mut bytes = bytes.to_vec();
+            set(&mut bytes, &[Number(2, 16, first)]);
+            set(&mut bytes, &changes);
+            let found = settle(&bytes, 1, 1).map(|settled| settled.amounts);
+            tests.same(&format!("F 15 October 2026, {name}, date {first}"), found, expected);
+        }
+    }
+
+    /// Statements of R 14 and F 6 outside the tables: bounds below 0, no cap at Pn, the ends of J's range.
+    fn section_14_of_rules(tests: &mut Tests) {
+        let none = NO_READING as i64;
+        // Pairing (Pauschal), direction, execution; P0, measured power, H and J of the one quarter; Pn is 1,000,000.
+        type Row = (u8, u8, u8, i64, i64, i64, i64, Result<i64, Refusal>);
+        let rows: &[Row] = &[
+            (OTHER, NEGATIVE, 2, 100_000, -20_000, -1, 0, Ok(4_999)),
+            (OTHER, POSITIVE, 2, -500_000, 500_000, -100_000, 0, Ok(-100_000)),
+            (OTHER, POSITIVE, 2, 800_000, 1_600_000, 1_400_000, 0, Ok(-150_000)),
+            (OTHER, POSITIVE, 2, 800_000, 1_600_000, none, 0, Ok(-200_000)),
+            (OTHER, NEGATIVE, 3, 1_500_000, 500_000, none, 0, Ok(250_000)),
+            (OTHER, NEGATIVE, 3, 1_500_000, 500_000, 1_400_000, 0, Ok(225_000)),
+            (WIND, NEGATIVE, 3, 1_500_000, 500_000, none, 1_400_000, Ok(225_000)),
+            (WIND, NEGATIVE, 2, 100_000, -1_000_000_000, none, -1_000_000_000, Ok(0)),
+            (WIND, NEGATIVE, 2, 100_000, -1_000_000_000, none, -999_999_996, Ok(1)),
+            (WIND, NEGATIVE, 2, 100_000, 0, none, -1_000_000_001, Err(9)),
+            (WIND, NEGATIVE, 2, 100_000, 0, none, -2_147_483_648, Err(9)),
+            (WIND, NEGATIVE, 2, 100_000, 0, none, 2_147_483_646, Err(9)),
+            (OTHER, POSITIVE, 2, 100_000, 0, 2_147_483_646, none, Err(9)),
+        ];
+        for &(technology, direction, execution, p0, measured, h, j, expected) in rows {
+            let new = record(QUARTER, 0, 0, &[(8, measured), (24, h), (28, j)]);
+            let parts = [before_quarter(p0, 0), new];
+            let mut bytes = filed((technology, PAUSCHAL, 1_000_000), (direction, execution), &parts);
+            set(&mut bytes, &[Number(2, 16, 937_921)]);
+            let found = settle(&bytes, 1, 1).map(|settled| settled.total);
+            let name = format!("R 14 {technology}, direction {direction}, P0 {p0}, measured {measured}, H {h}, J {j}");
+            tests.same(&name, found, expected);
+        }
+    }
+
+    /// The archive `october` of R 14.
+    fn october(tests: &mut Tests) {
+        let none = NO_READING as i64;
+        // Direction, execution, date, P0, limit; measured power, H and J of each quarter.
+        type Measure<'a> = (u8, u8, i64, i64, i64, &'a [(i64, i64, i64)]);
+        let wind: &[Measure] = &[
+            (NEGATIVE, 2, 937_920, 1_200_003, 0, &[(400_000, 900_000, 800_000), (400_001, 1_000_000_001, -1)]),
+            (
+                NEGATIVE,
+                1,
+                937_921,
+                1_200_003,
+                400_000,
+                &[
+                    (400_000, none, none),
+                    (400_001, 900_002, none),
+                    (399_000, none, 800_001),
+                    (400_002, 700_001, 800_001),
+                    (400_003, 900_002, 600_000),
+                    (400_000, 1_300_000, 1_000_000_000),
+                    (400_000, 0, none),
+                ],
+            ),
+            (NEGATIVE, 2, 937_921, 2_500_000, 0, &[(300_001, 2_400_000, none), (-500_002, none, -100_001)]),
+            (NEGATIVE, 2, 937_921, 1_200_003, 0, &[(400_000, none, 1_000_000_001)]),
+        ];
+        let other: &[Measure] = &[
+            (NEGATIVE, 2, 937_919, 800_000, 0, &[(500_001, 0, 0), (500_001, 0, 0), (500_002, 0, 0)]),
+            (
+                NEGATIVE,
+                2,
+                937_921,
+                800_000,
+                0,
+                &[(500_001, 0, 0), (500_001, 600_000, 0), (500_002, none, 1_000_000_001)],
+            ),
+            (POSITIVE, 1, 937_920, 500_000, 700_000, &[(760_000, 650_001, none)]),
+            (
+                POSITIVE,
+                1,
+                937_921,
+                500_000,
+                700_000,
+                &[
+                    (760_000, none, none),
+                    (760_000, 650_001, 600_000),
+                    (690_001, 750_000, 1_000_000_001),
+                    (760_000, 400_000, none),
+                ],
+            ),
+            (POSITIVE, 3, 1_000_000, 500_000, 600_000, &[(760_000, 650_001, none)]),
+            (NEGATIVE, 2, 3_506_401, 800_000, 0, &[(500_000, 1_000_000_001, 0)]),
+            (NEGATIVE, 2, 3_506_401, 800_000, 0, &[(500_000, none, 0)]),
+            (NEGATIVE, 2, 0, 800_000, 0, &[(500_000, 600_000, 600_000)]),
+        ];
+        let mut bytes = vec![0; 1_728];
+        fresh(&mut bytes);
+        let mut numbers = Vec::new();
+        for (technology, pn, measures) in [(WIND, 2_000_000, wind), (OTHER, 1_000_000, other)] {
+            let plant = unsigned(&bytes, USED) as u64;
+            numbers.push(append(&mut bytes, 0, &record(PLANT, technology, PAUSCHAL, &[(16, pn)])));
+            for &(direction, execution, first, p0, limit, quarters) in measures {
+                let measure = unsigned(&bytes, USED) as u64;
+                numbers.push(append(&mut bytes, plant, &record(MEASURE, direction, execution, &[(16, first)])));
+                numbers.push(append(&mut bytes, measure, &before_quarter(p0, 0)));
+                for &(measured, h, j) in quarters {
+                    let new = record(QUARTER, 0, 0, &[(8, measured), (12, limit), (24, h), (28, j)]);
+                    numbers.push(append(&mut bytes, measure, &new));
+                }
+            }
+        }
+        tests.same("R 14 october, filed and sound", (numbers, audit(&bytes)), (vec![0; 53], 0));
+
+        let expected = "M 1 1 2 400001 5\nQ 1 200000\nQ 2 200001\n\
+            M 1 2 7 750001 11\nQ 1 200000\nQ 2 125001\nQ 3 100000\nQ 4 75000\nQ 5 49999\nQ 6 200001\nQ 7 0\n\
+            M 1 3 2 625000 7\nQ 1 524999\nQ 2 100001\nE 1 4 9\n\
+            M 2 1 3 224999 7\nQ 1 74999\nQ 2 75000\nQ 3 75000\nM 2 2 3 99999 8\nQ 1 0\nQ 2 24999\nQ 3 75000\n\
+            M 2 3 1 -50000 7\nQ 1 -50000\nM 2 4 4 -135000 11\nQ 1 -50000\nQ 2 -37500\nQ 3 -47500\nQ 4 0\n\
+            M 2 5 1 -37500 9\nQ 1 -37500\nE 2 6 9\nE 2 7 18\nM 2 8 1 75000 12\nQ 1 75000\n";
+        tests.same("R 14 october, program", (printed(&bytes), expected.len()), (expected.into(), 421));
+    }
+
     /// The rows of F 17: all over `a`; then `month` and `shared`.
     fn section_17(tests: &mut Tests) {
         // Bytes added at the end, changes; the record taken back, and record and place of the link that named it.
@@ -1660,6 +1933,10 @@ mod self_test {
         delivery_days(&mut tests);
         section_15_dates(&mut tests);
         dated(&mut tests);
+        section_1_of_rules(&mut tests);
+        section_15_october(&mut tests);
+        section_14_of_rules(&mut tests);
+        october(&mut tests);
         section_17(&mut tests);
         section_17_around_append(&mut tests);
         sizes(&mut tests);

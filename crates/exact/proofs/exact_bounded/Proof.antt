@@ -12,10 +12,11 @@ use Rattle.rules.specs.Reference.{magnitude}
 use Rattle.units.proofs.Laws.{held, back}
 use Rattle.record.specs.declared.Power.the-variants as power
 use Rattle.record.specs.Powers.{SmallestOf}
+use Rattle.record.proofs.Readings.{smallest-power}
 use Rattle.terms.specs.Meanings.{meaning}
 use Rattle.limitation.specs.Limits.{LimitedTo}
 use Rattle.exact.specs.Exacts.{ReadFrom}
-use Rattle.exact.proofs.Exacts.{read-from, limited-low, limited-read, exact-unlimited, bounded-unreferred, bounded-unlimited, bounded-is, smallest-low}
+use Rattle.exact.proofs.Exacts.{read-from, limited-low, limited-read, exact-unlimited, bounded-unreferred, bounded-unlimited, bounded-is}
 use borrow.Author.Needs.{needs}
 use Rattle.exact.proofs.exact_bounded.Statement.{statement}
 use Rattle.exact.proofs.exact_bounded.Tie as tie
@@ -111,8 +112,8 @@ magnitude-requires c κs =
     let terms = meaning (s .args .terms) in
     let h = read-from terms 0 (s .args .r .now) in
     let q = quarterOf terms 0 (s .args .r .now) in
-    let t = smallest-low (referenceBounds (s .args .bounding) q) (s .args .p0 .0) (s .pre .1 .0) (lowest at-t q h) in
-    let w = smallest-low (limitationBounds (s .args .bounding) q) _ (limited-low terms _ _ _ (told at-l)) (bound at-limit q h) in
+    let t = smallest-power (referenceBounds (s .args .bounding) q) (s .args .p0 .0) (s .pre .1 .0) (lowest at-t q h) in
+    let w = smallest-power (limitationBounds (s .args .bounding) q) _ (limited-low terms _ _ _ (told at-l)) (bound at-limit q h) in
     record {
       divisor = omega arith;
       reference = power-room (at-t .t .given .0 .0 .0) t;
@@ -128,7 +129,7 @@ returns-4 c =
     let s = start at-l in
     let terms = meaning (s .args .terms) in
     λ q h.
-    let t = smallest-low (referenceBounds (s .args .bounding) q) (s .args .p0 .0) (s .pre .1 .0) (lowest at-t q h) in
+    let t = smallest-power (referenceBounds (s .args .bounding) q) (s .args .p0 .0) (s .pre .1 .0) (lowest at-t q h) in
     bounded-is terms (s .args .p0 .0) q (s .pre .1 .1) (limited at-l q h) (lowest at-t q h) (bound at-limit q h)
     (c .magnitude .ensures ∙ ap (λ (z : ℤ). magnitude (s .args .terms .direction) 1 z (at-limit .limit .given .0 .0 .0)) (back (at-t .t .given .0 .0 .0) (omega (arith, t))))
 
