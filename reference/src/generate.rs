@@ -43,6 +43,10 @@ pub const SETTLED: [(Pairing, u8); 8] = [
     (Pairing::OtherPauschal, 1),
 ];
 
+/// The pairings and directions whose quarters have request 3's readings from October 2026 on.
+pub const BOUNDED: [(Pairing, u8); 3] =
+    [(Pairing::WindPauschal, 2), (Pairing::OtherPauschal, 2), (Pairing::OtherPauschal, 1)];
+
 /// A call and, where the way it was made fixes it, its refusal number.
 #[derive(Clone, Debug)]
 pub struct Case {
@@ -202,7 +206,7 @@ fn uses_before(pairing: Pairing) -> bool {
 
 /// Whether request 3 gives the pairing readings; both are wind's alone.
 fn has_readings(pairing: Pairing) -> bool {
-    matches!(pairing, Pairing::WindPauschal | Pairing::OtherPauschal)
+    BOUNDED.iter().any(|&(bounded, _)| bounded == pairing)
 }
 
 // ---------------------------------------------------------------------------------------------------------------

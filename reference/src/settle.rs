@@ -76,7 +76,7 @@ pub const IRRADIANCE: RangeInclusive<i128> = 0..=2_000;
 
 /// 1 October 2026, 00:00: the first quarter of the measures that request 3 is about is this one or a later one.
 pub const OCTOBER: u64 = 937_921;
-/// What a reading of request 3 holds that isn't there.
+/// The number that means that there is no reading of request 3.
 pub const NONE: i128 = 2_147_483_647;
 
 /// Refusal 9 unless the value is in its range.

@@ -17,9 +17,9 @@
 mod host;
 
 use reference::archive::{field, record, ADJUSTED, MEASURE, NONAVAILABLE, PLANT, RECORD};
-use reference::generate::{self, Call};
+use reference::generate::{self, Call, BOUNDED};
 use reference::rng::Rng;
-use reference::settle::{first_quarter, quarters, reading_places, terms, Pairing, NONE, POWER};
+use reference::settle::{first_quarter, quarters, reading_places, terms, NONE, POWER};
 use std::collections::{BTreeMap, HashSet};
 use std::fs::{self, File};
 use std::io::{self, BufWriter, Write};
@@ -156,8 +156,7 @@ impl Case {
     }
 }
 
-/// Whose readings request 3 reads, and what has to be reached of each.
-const READ: [(Pairing, u8); 3] = [(Pairing::WindPauschal, 2), (Pairing::OtherPauschal, 2), (Pairing::OtherPauschal, 1)];
+/// What has to be reached of each pairing and direction that has request 3's readings.
 const BRANCHES: [&str; 4] = [
     "settled with a reading that is none",
     "settled with a reading that is there",
@@ -169,12 +168,12 @@ const BRANCHES: [&str; 4] = [
 fn branches(case: &Case, number: u32) -> Option<Vec<(usize, usize)>> {
     let (pairing, direction, _) = terms(&case.archive, case.a, case.b)?;
     let first = first_quarter(&case.archive, case.a, case.b)?;
-    let whose = READ.iter().position(|&one| one == (pairing, direction))?;
+    let whose = BOUNDED.iter().position(|&one| one == (pairing, direction))?;
     let quarters = quarters(&case.archive, case.a, case.b)?;
     let places = reading_places(pairing, first);
     let any = |read: bool, fits: &dyn Fn(i128) -> bool| {
-        let places = [NONAVAILABLE, ADJUSTED].into_iter().filter(|at| places.contains(at) == read);
-        places.map(|at| quarters.iter().any(|quarter| fits(field(quarter, at)))).any(|found| found)
+        let mut places = [NONAVAILABLE, ADJUSTED].into_iter().filter(|at| places.contains(at) == read);
+        places.any(|at| quarters.iter().any(|quarter| fits(field(quarter, at))))
     };
     let wide = |power: i128| power != NONE && !POWER.contains(&power);
     let reached = [
@@ -307,7 +306,7 @@ fn ask(seed: u64, archives: usize, folder: &Path, program: &Path) -> io::Result<
             complete = false;
         }
     }
-    for ((pairing, direction), times) in READ.iter().zip(october) {
+    for ((pairing, direction), times) in BOUNDED.iter().zip(october) {
         let side = if *direction == 1 { "positive" } else { "negative" };
         for (what, times) in BRANCHES.iter().zip(times) {
             println!("{pairing:?} {side}, {what}: {times}");

@@ -13,7 +13,7 @@
 use reference::archive::{used, DATE, NONAVAILABLE, RECORD};
 use reference::builder::*;
 use reference::calendar::{first_day, LAST};
-use reference::generate::{self, Call, NUMBERS, SETTLED};
+use reference::generate::{self, Call, BOUNDED, NUMBERS, SETTLED};
 use reference::rng::Rng;
 use reference::settle::{first_quarter, reading_places, terms, Answer, Pairing, OCTOBER};
 use reference::slips::{self, Of, Slip, FURTHER, SLIPS};
@@ -166,11 +166,6 @@ fn elsewhere(slip: Slip, of: Of) -> bool {
         || matches!(slip, ResultFirst | ResultLonger | ZeroedResult | RaggedPlace | ListWritten | DueWritten)
 }
 
-/// Pairings and directions whose readings request 3 reads.
-fn bounded() -> impl Iterator<Item = (Pairing, u8)> {
-    SETTLED.into_iter().filter(|&(pairing, _)| !reading_places(pairing, OCTOBER).is_empty())
-}
-
 /// Everything that has to be reached, and how often a generated call is taken for it.
 fn wanted() -> Vec<(String, u64)> {
     let mut wanted = Vec::new();
@@ -181,7 +176,7 @@ fn wanted() -> Vec<(String, u64)> {
     for (pairing, direction) in SETTLED {
         wanted.extend((1..=3).map(|execution| (settled(pairing, direction, execution), 4)));
     }
-    for (pairing, direction) in bounded() {
+    for (pairing, direction) in BOUNDED {
         wanted.extend((1..=3).map(|execution| (since_october(pairing, direction, execution), 2)));
     }
     for &(slip, of, _, _) in SLIPS {
@@ -356,7 +351,7 @@ impl Cases {
                 self.run(&start, size, settle(2_976));
             }
         }
-        for (pairing, direction) in bounded() {
+        for (pairing, direction) in BOUNDED {
             for (execution, first) in [(1, OCTOBER - 1), (1, OCTOBER), (2, OCTOBER), (3, OCTOBER)] {
                 let start = start(&self.archive, pairing, direction, execution, first);
                 self.run(&start, size, settle(2_976));

@@ -7,7 +7,7 @@
 use reference::archive::{field, link, record, used, ADJUSTED, FIRST, NEXT, NONAVAILABLE, SECOND};
 use reference::calendar::{next_days, Date, Day, QuarterHour, LAST};
 use reference::filing::names;
-use reference::generate::{self, Call, NUMBERS, SETTLED};
+use reference::generate::{self, Call, BOUNDED, NUMBERS, SETTLED};
 use reference::settle::{
     before_quarters, first_quarter, quarters, reading_places, terms, Pairing, NONE, OCTOBER, POWER,
 };
@@ -90,10 +90,6 @@ fn late(tally: &mut Tally, pairing: Pairing, first: u64, places: usize, result: 
     tally.size("18 with a list of no place", places == 0);
     tally.size("18 with a result part not of 24 bytes", result != 24);
 }
-
-/// Whose readings request 3 reads.
-const BOUNDED: [(Pairing, u8); 3] =
-    [(Pairing::WindPauschal, 2), (Pairing::OtherPauschal, 2), (Pairing::OtherPauschal, 1)];
 
 /// Readings at the ends of the range and beside 0; out of range, beside its ends, beside none, and the lowest.
 const EDGES: [i128; 5] = [-1_000_000_000, -1, 0, 1, 1_000_000_000];
