@@ -19,16 +19,12 @@ fn wide(x: u8) -> u64
     x as u64
 }
 
-// Four bytes, little-endian.
+// Four bytes, little-endian, joined by shifts (document 02, 4).
 pub fn link_at(r: &[u8], at: usize) -> u64
     requires { ⌜ at + 4 ≤ length (now r) ⌝ }
     ensures { λ n. ⌜ (n ≡ linkAt (now (r .entry)) at) × (n < 2 ^ 32) ⌝ }
 {
-    let a = wide(r[at]);
-    let b = wide(r[at + 1]);
-    let c = wide(r[at + 2]);
-    let d = wide(r[at + 3]);
-    a + 256 * b + 65536 * c + 16777216 * d
+    wide(r[at]) + (wide(r[at + 1]) << 8) + (wide(r[at + 2]) << 16) + (wide(r[at + 3]) << 24)
 }
 
 // A signed field of four bytes: a power.
