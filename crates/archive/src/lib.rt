@@ -21,21 +21,12 @@ pub fn is_whole(size: usize) -> bool
     size / 32 <= 65535
 }
 
-// Bytes 0-3 are AARB.
+// Bytes 0-3 are AARB; as a link they would be this number.
 fn is_text(r: &[u8]) -> bool
     requires { ⌜ length (now r) ≡ 32 ⌝ }
     ensures { λ t. ⌜ t ≡ isText (now (r .entry)) ⌝ }
 {
-    if r[0] != 65 {
-        return false;
-    }
-    if r[1] != 65 {
-        return false;
-    }
-    if r[2] != 82 {
-        return false;
-    }
-    r[3] == 66
+    record::link_at(r, 0) == 1112686913
 }
 
 // U, the count of used records, or refusal 1.
