@@ -31,6 +31,14 @@ parts-shown n d whole low h =
     let all : n ≡ d * whole + (n - whole * d) = omega (arith, low, mul-comm whole d) in
     rw (quotient n d whole (n - whole * d) h all, remainder n d whole (n - whole * d) h all)
 
+-- where the denominator is 4
+pub booked-by-four : (c : Carry) (m : ℕ) → c .denominator ≡ 4
+    → _≡_ {A = Booked} (record { amount = m / 4 + (c .remainder + m % 4) / 4; carry = carryOf ((c .remainder + m % 4) % 4) (c .denominator) (c .inverse) }) (bookedOf c m)
+booked-by-four c m e =
+    let q : m / 4 + (c .remainder + m % 4) / 4 ≡ (c .remainder + m) / 4 = omega arith in
+    let r : (c .remainder + m % 4) % 4 ≡ (c .remainder + m) % 4 = omega arith in
+    rw (e, q, r)
+
 -- p is the magnitude's whole Wh and what is left of it
 module _ (c : Carry) (m : ℕ) (p : Parts) (parts-are : p ≡ partsOf m (c .denominator)) where
   parts : c .denominator * p .whole + p .rest ≡ m

@@ -68,7 +68,7 @@ fn by_estimate(n: u64, d: u64, inverse: u64) -> Parts
     divided(n, d)
 }
 
-// n / d and n % d. The denominators that the rules fix are divided by as constants, which is quicker.
+// n / d and n % d, by the estimate where there is an inverse for it.
 fn quotient(n: u64, d: u64, inverse: u64) -> Parts
     requires { ⌜ 0 < d ⌝ }
     ensures { λ r. ⌜ r ≡ partsOf n d ⌝ }
@@ -76,22 +76,16 @@ fn quotient(n: u64, d: u64, inverse: u64) -> Parts
     if inverse != 0 && d < 4294967296 {
         return by_estimate(n, d, inverse);
     }
-    if d == 4 {
-        return divided(n, 4);
-    }
-    if d == 40000 {
-        return divided(n, 40000);
-    }
     divided(n, d)
 }
 
-// One magnitude booked, by value. The division is the magnitude's alone, so that it doesn't wait for the quarter before.
-fn booking(c: Carry, magnitude: u64) -> Booked
+// One magnitude booked, by its quotient and remainder: what is carried makes at most one Wh more.
+fn carried(c: Carry, magnitude: u64, parts: Parts) -> Booked
     requires { ⌜ (c .remainder < c .denominator) × (c .denominator ≤ 2 ^ 63) ⌝ }
+    requires { ⌜ parts ≡ partsOf magnitude (c .denominator) ⌝ }
     ensures { λ r. ⌜ r ≡ bookedOf c magnitude ⌝ }
 {
     let d = c.denominator;
-    let parts = quotient(magnitude, d, c.inverse);
     let whole = parts.whole;
     let rest = c.remainder + parts.rest;
     if rest < d {
@@ -113,6 +107,38 @@ fn booking(c: Carry, magnitude: u64) -> Booked
         };
         Booked { amount, carry }
     }
+}
+
+// The same where the denominator is 4 × 1: a second division by 4 is quicker than a test, and the next quarter waits for less.
+fn by_four(c: Carry, magnitude: u64) -> Booked
+    requires { ⌜ (c .remainder < 4) × (c .denominator ≡ 4) ⌝ }
+    ensures { λ r. ⌜ r ≡ bookedOf c magnitude ⌝ }
+{
+    let whole = magnitude / 4;
+    let rest = c.remainder + magnitude % 4;
+    let amount = whole + rest / 4;
+    let carry = Carry {
+        remainder: rest % 4,
+        denominator: c.denominator,
+        inverse: c.inverse,
+    };
+    Booked { amount, carry }
+}
+
+// One magnitude booked, by value. The division is the magnitude's alone, so that it doesn't wait for the quarter before; the denominators
+// that the rules fix are divided by as constants, which is quicker.
+fn booking(c: Carry, magnitude: u64) -> Booked
+    requires { ⌜ (c .remainder < c .denominator) × (c .denominator ≤ 2 ^ 63) ⌝ }
+    ensures { λ r. ⌜ r ≡ bookedOf c magnitude ⌝ }
+{
+    let d = c.denominator;
+    if d == 4 {
+        return by_four(c, magnitude);
+    }
+    if d == 40000 {
+        return carried(c, magnitude, divided(magnitude, 40000));
+    }
+    carried(c, magnitude, quotient(magnitude, d, c.inverse))
 }
 
 // The carry is lent and updated.

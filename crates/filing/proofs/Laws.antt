@@ -1,10 +1,10 @@
 -- What each answer of fresh and append is, over plain variables.
 use mathlib.Core.Path.{_≡_, sym, _∙_, ap, subst}
 use mathlib.Core.Bool.{true, false}
-use mathlib.Core.List.{List}
+use mathlib.Core.List.{List, _++_, append-nil}
 use Prim.Native.Nat.{ℕ, _+_, _≤_}
 use native.Mathlib.Omega.{arith}
-use lib.ListN.{length, replicate}
+use lib.ListN.{length, replicate, drop-of-length-le}
 use Rattle.rules.specs.Outcome.{_>>_, require}
 use Rattle.rules.specs.Refusals.{notArchive}
 use Rattle.rules.specs.Archive.{isWhole}
@@ -46,3 +46,12 @@ module _ (archive : List ℕ) (owner : ℕ) (new : List ℕ) (x : Destination) (
 
   pub append-done : (used last : ℕ) (later : List ℕ) → x ≡ destination.At used last → later ≡ appendAfter archive used last new → Appends archive owner new later 0
   append-done used last later e f = let q = subst (Goes archive owner new) e p in record { answers = rw (q .0); leaves = f ∙ sym (rw (q .0)) }
+
+-- ---- what is filed
+
+-- a record taken over into 32 zeros
+pub taken-over : (old new : List ℕ) → length new ≡ length old → put old 0 new ≡ new
+unfolding put
+taken-over old new e =
+    let h : length old ≤ 0 + length new = omega arith in
+    ap (λ (l : List ℕ). new ++ l) (drop-of-length-le old h) ∙ append-nil new

@@ -26,12 +26,15 @@ pub fn fresh(archive: &mut [u8]) -> u64
 
 // ---- append
 
-// The record goes to number U, the last link of its chain points to it, U grows by 1, no other byte changes.
+// The record goes to number U, the last link of its chain points to it, U grows by 1, no other byte changes. Its bytes are taken over
+// first, where nothing else is written, so that the compiler moves them together.
 fn file(archive: &mut [u8], used: u64, last: u64, new: &[u8])
     requires { ⌜ HasRoom (now archive) used last (now new) ⌝ }
     ensures { λ _. ⌜ now (archive .exit) ≡ appendAfter (now (archive .entry)) used last (now (new .entry)) ⌝ }
 {
-    writing::put_bytes(archive, 32 * used, new);
+    let mut own = [0u8; 32];
+    writing::put_bytes(&mut own, 0, new);
+    writing::put_bytes(archive, 32 * used, &own);
     writing::put_word(archive, last, used);
     writing::put_word(archive, 4, used + 1);
 }
