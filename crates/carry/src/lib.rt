@@ -68,17 +68,6 @@ fn by_estimate(n: u64, d: u64, inverse: u64) -> Parts
     divided(n, d)
 }
 
-// n / d and n % d, by the estimate where there is an inverse for it.
-fn quotient(n: u64, d: u64, inverse: u64) -> Parts
-    requires { ⌜ 0 < d ⌝ }
-    ensures { λ r. ⌜ r ≡ partsOf n d ⌝ }
-{
-    if inverse != 0 && d < 4294967296 {
-        return by_estimate(n, d, inverse);
-    }
-    divided(n, d)
-}
-
 // One magnitude booked, by its quotient and remainder: what is carried makes at most one Wh more.
 fn carried(c: Carry, magnitude: u64, parts: Parts) -> Booked
     requires { ⌜ (c .remainder < c .denominator) × (c .denominator ≤ 2 ^ 63) ⌝ }
@@ -125,20 +114,24 @@ fn by_four(c: Carry, magnitude: u64) -> Booked
     Booked { amount, carry }
 }
 
-// One magnitude booked, by value. The division is the magnitude's alone, so that it doesn't wait for the quarter before; the denominators
-// that the rules fix are divided by as constants, which is quicker.
+// One magnitude booked, by value. The division is the magnitude's alone, so that it doesn't wait for the quarter before: by the estimate
+// where there is an inverse for it, and by a constant, which is quicker, where the rules fix the denominator.
 fn booking(c: Carry, magnitude: u64) -> Booked
     requires { ⌜ (c .remainder < c .denominator) × (c .denominator ≤ 2 ^ 63) ⌝ }
     ensures { λ r. ⌜ r ≡ bookedOf c magnitude ⌝ }
 {
     let d = c.denominator;
-    if d == 4 {
-        return by_four(c, magnitude);
+    let inverse = c.inverse;
+    if inverse != 0 && d < 4294967296 {
+        return carried(c, magnitude, by_estimate(magnitude, d, inverse));
     }
     if d == 40000 {
         return carried(c, magnitude, divided(magnitude, 40000));
     }
-    carried(c, magnitude, quotient(magnitude, d, c.inverse))
+    if d == 4 {
+        return by_four(c, magnitude);
+    }
+    carried(c, magnitude, divided(magnitude, d))
 }
 
 // The carry is lent and updated.

@@ -13,12 +13,13 @@ use reference::fast;
 use reference::generate;
 use reference::program::MOST_BYTES;
 use reference::rng::Rng;
+use std::cell::{Cell, RefCell};
 use std::fs::{self, File};
 use std::hint::black_box;
 use std::path::Path;
 use std::process::{Command, Stdio};
 use std::time::{Duration, Instant};
-use versions::Version;
+use versions::{Place, Version};
 
 /// Shortest time of one repetition.
 const SPAN: Duration = Duration::from_micros(200);
@@ -272,39 +273,98 @@ fn sound(records: usize, order: Order, rng: &mut Rng) -> Vec<u8> {
     archive
 }
 
-/// Times append behind a chain of quarters; the record is taken off again each time, which is in all figures.
-fn append(repetitions: usize, versions: &[Version], length: usize, rng: &mut Rng) -> Vec<f64> {
+/// An archive with one chain of so many quarters and room for one more, the measure's number, and what takes that one off again.
+fn with_room(length: usize, rng: &mut Rng) -> (Vec<u8>, u64, impl Fn(&mut [u8])) {
     let plant = sheet(3, 1, 2, 0, length, rng);
     let filed = file(&[plant], &Layout { spare: 1, ..Layout::PLAIN }, rng);
     let measure = &filed.plants[0].measures[0];
     let (owner, last) = (measure.number, measure.quarters[length - 1] as usize);
     let head: [u8; 4] = filed.bytes[4..8].try_into().unwrap();
-    let mut record = [0; 32];
-    record[0] = 5;
-    let undo = |archive: &mut [u8]| {
+    let end = filed.bytes.len() - 32;
+    let undo = move |archive: &mut [u8]| {
         archive[4..8].copy_from_slice(&head);
         archive[last * 32 + 4..last * 32 + 8].fill(0);
+        archive[end] = 0;
     };
-    let mut archive = filed.bytes.clone();
-    assert_eq!(fast::append(&mut archive, owner, &record), 0);
+    (filed.bytes, owner, undo)
+}
+
+/// What is appended: a quarter with nothing in it.
+const APPENDED: [u8; 32] = {
+    let mut record = [0; 32];
+    record[0] = 5;
+    record
+};
+
+/// Times append behind a chain of quarters; the record is taken off again each time, which is in all figures.
+fn append(repetitions: usize, versions: &[Version], length: usize, rng: &mut Rng) -> Vec<f64> {
+    let (before, owner, undo) = with_room(length, rng);
+    let mut archive = before.clone();
+    assert_eq!(fast::append(&mut archive, owner, &APPENDED), 0);
+    let undo = &undo;
     let mut sides: Vec<Side> = Vec::new();
     for version in versions {
-        let mut own = filed.bytes.clone();
+        let mut own = before.clone();
         for place in &version.places {
-            assert_eq!(place.append(&mut own, owner, &record), 0);
+            assert_eq!(place.append(&mut own, owner, &APPENDED), 0);
             assert!(own == archive, "library and fast differ");
             undo(&mut own);
         }
         sides.push(Box::new(move |at| {
-            black_box(version.places[at].append(black_box(&mut own), owner, black_box(&record)));
+            black_box(version.places[at].append(black_box(&mut own), owner, black_box(&APPENDED)));
             undo(&mut own);
         }));
     }
     undo(&mut archive);
     sides.push(Box::new(move |_| {
-        black_box(fast::append(black_box(&mut archive), owner, black_box(&record)));
+        black_box(fast::append(black_box(&mut archive), owner, black_box(&APPENDED)));
         undo(&mut archive);
     }));
+    medians(repetitions, versions[0].places.len(), &mut sides)
+}
+
+/// 65,535 records of 22 plants that are filed side by side, quarter by quarter, 2,976 quarters each but for the last.
+fn side_by_side(rng: &mut Rng) -> Vec<u8> {
+    let mut plants: Vec<Plant> = (0..22).map(|_| sheet(3, 2, 2, 1, 2_976, rng)).collect();
+    for plant in &mut plants {
+        plant.curve.clear();
+    }
+    plants[21].measures[0].quarters.truncate(2_972);
+    let archive = file(&plants, &Layout { order: Order::Wide, ..Layout::PLAIN }, rng).bytes;
+    assert_eq!(archive.len(), 32 * 65_535);
+    archive
+}
+
+/// Copies of an archive of 65,535 records, 134 MB in all: more than a cache holds.
+const COPIES: usize = 64;
+
+/// Times a call on one copy of an archive after the other, so that it finds nothing of its copy in a cache. All sides must give
+/// the same.
+fn cold(
+    repetitions: usize,
+    versions: &[Version],
+    archive: &[u8],
+    library: impl Fn(&Place, &mut [u8]) -> u64,
+    fast: impl Fn(&mut [u8]) -> u64,
+) -> Vec<f64> {
+    let mut copy = archive.to_vec();
+    let right = fast(&mut copy);
+    for place in versions.iter().flat_map(|version| &version.places) {
+        assert_eq!(library(place, &mut copy), right, "library and fast differ");
+    }
+    assert!(copy == archive, "a call that leaves the archive as it was");
+    let copies = RefCell::new(vec![copy; COPIES]);
+    let next = Cell::new(0);
+    let on_next = |call: &dyn Fn(&mut [u8]) -> u64| {
+        next.set((next.get() + 1) % COPIES);
+        black_box(call(black_box(&mut copies.borrow_mut()[next.get()])));
+    };
+    let (on_next, library, fast) = (&on_next, &library, &fast);
+    let mut sides: Vec<Side> = Vec::new();
+    for version in versions {
+        sides.push(Box::new(move |at| on_next(&|archive| library(&version.places[at], archive))));
+    }
+    sides.push(Box::new(move |_| on_next(fast)));
     medians(repetitions, versions[0].places.len(), &mut sides)
 }
 
@@ -418,6 +478,56 @@ fn main() {
     for length in [10, 100, 1_000, 10_000, 60_000] {
         row(&format!("{length} quarters"), &append(repetitions, &versions, length, rng), 1.0);
     }
+
+    // Numbers of their own, so that the later inputs are the same in every version.
+    let cold_rng = &mut Rng::new(7, 10);
+    header("65,535 records out of the cache", "ns per record met", &versions);
+    let archive = side_by_side(cold_rng);
+    let lent = RefCell::new((vec![0; 8 * 2_976], [0; 24]));
+    let total = |number: u32, result: &[u8; 24]| {
+        assert_eq!(number, 0);
+        u64::from_le_bytes(result[8..16].try_into().unwrap())
+    };
+    let times = cold(
+        repetitions,
+        &versions,
+        &archive,
+        |place, archive| {
+            let (list, result) = &mut *lent.borrow_mut();
+            total(place.settle(archive, 11, 1, list, result), result)
+        },
+        |archive| {
+            let (list, result) = &mut *lent.borrow_mut();
+            total(fast::host_settle(archive, 11, 1, list, result), result)
+        },
+    );
+    row("settle, 2,976 quarters of one of 22 plants filed side by side", &times, 2_976.0);
+    let times = cold(
+        repetitions,
+        &versions,
+        &archive,
+        |place, archive| place.audit(archive).into(),
+        |archive| fast::audit(archive).into(),
+    );
+    row("audit, the same archive", &times, 65_535.0);
+    let (archive, owner, undo) = with_room(65_529, cold_rng);
+    assert_eq!(archive.len(), 32 * 65_535);
+    let times = cold(
+        repetitions,
+        &versions,
+        &archive,
+        |place, archive| {
+            let number = place.append(archive, owner, &APPENDED);
+            undo(archive);
+            number.into()
+        },
+        |archive| {
+            let number = fast::append(archive, owner, &APPENDED);
+            undo(archive);
+            number.into()
+        },
+    );
+    row("append, behind a chain of 65,529 quarters", &times, 65_529.0);
 
     if versions.iter().all(Version::delivers) {
         header("Delivery day", "ns per call", &versions);
