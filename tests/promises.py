@@ -76,6 +76,7 @@ PHRASES = (
     "from October 2026 on",
     "the 2020 text",
     "takes 2,147,483,647 as it is",
+    "expression of shifts (request 4)",
     "| request 2 | an append",
     "| request 2 | of a sound archive",
     "| request 2 | filings",
