@@ -1,8 +1,7 @@
--- The straight line between two points, gone along from speed to speed: its value as a quotient and a remainder, by sums alone.
-use mathlib.Core.Path.{_≡_, sym, ap}
-use mathlib.Core.Logic.{_⊎_, ⊎-elim}
-use Prim.Native.Nat.{ℕ, _+_, _*_, _-_, _/_, _%_, _≤_, _<_}
-use native.Mathlib.Nat.{mul-add, add-mul, lt-of-mul-lt-mul-right, div-eq-of-lt-le, div-le-self, div-add-mod', mod-lt}
+-- The straight line between two points, gone along from speed to speed by a slope that is rounded up.
+use mathlib.Core.Path.{_≡_, sym, _∙_, ap}
+use Prim.Native.Nat.{ℕ, _+_, _*_, _-_, _/_, _%_, _^_, _≤_, _<_}
+use native.Mathlib.Nat.{mul-comm, mul-assoc, mul-left-comm, mul-add, add-mul, mul-le-mul-left, mul-le-mul-right, lt-of-mul-lt-mul-left, div-eq-of-lt-le, div-add-mod, mod-lt}
 use native.Mathlib.Omega.{arith}
 use mir.Syntax.{w64}
 use mir.Val.{Fits}
@@ -11,80 +10,61 @@ use Rattle.rules.specs.Reference.{lineAt}
 use Rattle.rules.proofs.Curve.{line-low}
 use Rattle.curve.specs.Lines.{Piece}
 
-module _ (a b : Point) where
-  -- the line's value at a speed, times the distance of the two points' speeds
-  abbrev pub lineSum : ℕ → ℕ
-  lineSum v = a .power * (b .speed - v) + b .power * (v - a .speed)
+-- ---- c × i / w by f, which is 2^20 × c / w rounded up
 
-  -- a quotient and a remainder of it
-  pub record OnLine (v power rest : ℕ) : Type 0 where
-    pub value : power * (b .speed - a .speed) + rest ≡ lineSum v
-    pub part : rest < b .speed - a .speed
+module _ (c w f i : ℕ) (low : 1048576 * c ≤ w * f) (high : w * f < 1048576 * c + w) (within : i < w) (few : w ≤ 1000) where
+  abbrev pub quotient : ℕ
+  quotient = i * f / 1048576
 
-  pub line-power : (v power rest : ℕ) → OnLine v power rest → power ≡ lineAt a b v
-  line-power v power rest l =
-      sym (div-eq-of-lt-le {k = power} (b .speed - a .speed) {m = lineSum v} (omega (arith, l .value))
-      (omega (arith, l .value, l .part, add-mul power 1 (b .speed - a .speed))))
+  product : i * (1048576 * c) ≡ 1048576 * (c * i)
+  product = mul-left-comm i 1048576 c ∙ ap (λ (k : ℕ). 1048576 * k) (mul-comm i c)
 
-  pub line-starts : a .speed < b .speed → OnLine (a .speed) (a .power) 0
-  line-starts rises =
-      let z : a .speed - a .speed ≡ 0 = omega arith in
-      record { value = rw z (omega arith); part = omega arith }
+  pub sloped-low : w * quotient ≤ c * i
+  sloped-low =
+      let most : w * f ≤ 1048576 * c + 999 = omega arith in
+      let whole : 1048576 * quotient ≤ i * f = omega arith in
+      omega (
+        arith,
+        mul-le-mul-left i most,
+        mul-add i (1048576 * c) 999,
+        product,
+        mul-left-comm i w f,
+        mul-le-mul-left w whole,
+        mul-left-comm w 1048576 quotient,
+      )
 
-  module _ (v : ℕ) (from : a .speed ≤ v) (until : v < b .speed) where
-    line-on : lineSum (v + 1) + a .power ≡ lineSum v + b .power
-    line-on = omega (
-      arith,
-      ap (λ (w : ℕ). a .power * w) left,
-      mul-add (a .power) (b .speed - (v + 1)) 1,
-      ap (λ (w : ℕ). b .power * w) right,
-      mul-add (b .power) (v - a .speed) 1,
-    )
-      where
-        left : b .speed - v ≡ b .speed - (v + 1) + 1
-        left = omega arith
+  pub sloped-high : c * i < w * quotient + w
+  sloped-high =
+      let below : i * f + 1 ≤ 1048576 * quotient + 1048576 = omega arith in
+      omega (
+        arith,
+        mul-le-mul-left i low,
+        product,
+        mul-left-comm i w f,
+        mul-le-mul-left w below,
+        mul-add w (i * f) 1,
+        mul-add w (1048576 * quotient) 1048576,
+        mul-left-comm w 1048576 quotient,
+      )
 
-        right : v + 1 - a .speed ≡ v - a .speed + 1
-        right = omega arith
+-- ---- the line
 
-    -- a speed on: after the carry, the change raised by `raise` is added, and `raise` taken away
-    module _ (raise step part : ℕ) (change : step * (b .speed - a .speed) + part + a .power ≡ b .power + raise * (b .speed - a .speed))
-        (power rest : ℕ) (l : OnLine v power rest)
-        (power′ rest′ : ℕ) (carried : power′ * (b .speed - a .speed) + rest′ ≡ power * (b .speed - a .speed) + rest + part)
-        (fits : rest′ < b .speed - a .speed) where
-      sum-on : (power′ + step) * (b .speed - a .speed) + rest′ ≡ lineSum (v + 1) + raise * (b .speed - a .speed)
-      sum-on = omega (arith, line-on, l .value, add-mul power′ step (b .speed - a .speed))
-
-      line-room : raise ≤ power′ + step
-      line-room =
-          let h : raise < power′ + step + 1 = lt-of-mul-lt-mul-right (b .speed - a .speed) {m = raise} {n = power′ + step + 1}
-          (omega (arith, sum-on, add-mul (power′ + step) 1 (b .speed - a .speed))) in
-          omega arith
-
-      line-next : OnLine (v + 1) (power′ + step - raise) rest′
-      line-next = record {
-        value = omega (arith, sum-on, add-mul (power′ + step - raise) raise (b .speed - a .speed), ap (λ (k : ℕ). k * (b .speed - a .speed)) back);
-        part = fits;
-      }
-        where
-          back : power′ + step - raise + raise ≡ power′ + step
-          back = omega (arith, line-room)
-
--- the change of the value from a speed to the next, raised by 1,000,000,000 so that it isn't below zero, as a quotient and a remainder
+-- the change of the value from a speed to the next, times the distance of the two points' speeds, raised so that it isn't below zero
 abbrev pub changeOf : Point → Point → ℕ
 changeOf a b = b .power + 1000000000 * (b .speed - a .speed) - a .power
 
-abbrev pub stepOf : Point → Point → ℕ
-stepOf a b = changeOf a b / (b .speed - a .speed)
+abbrev pub slopeOf : Point → Point → ℕ
+slopeOf a b = (1048576 * changeOf a b + (b .speed - a .speed) - 1) / (b .speed - a .speed)
 
-abbrev pub partOf : Point → Point → ℕ
-partOf a b = changeOf a b % (b .speed - a .speed)
+-- what the code has at a speed: the slope and the raise, each as often as the speed is above the first point's
+pub record OnLine (a b : Point) (v risen raised : ℕ) : Type 0 where
+  pub slopes : risen ≡ (v - a .speed) * slopeOf a b
+  pub raises : raised ≡ 1000000000 * (v - a .speed)
 
--- what the code has between the carry and the change
-pub record Turned (a b : Point) (v power rest : ℕ) : Type 0 where
-  pub low : power ≤ 1000000001
-  pub room : 1000000000 ≤ power + stepOf a b
-  pub next : OnLine a b (v + 1) (power + stepOf a b - 1000000000) rest
+pub line-starts : (a b : Point) → OnLine a b (a .speed) 0 0
+line-starts a b =
+    let z : a .speed - a .speed ≡ 0 = omega arith in
+    record { slopes = rw z (omega arith); raises = rw z (omega arith) }
 
 -- one speed on
 module _ {v : ℕ} where
@@ -98,43 +78,119 @@ module _ {v : ℕ} where
   on-nearer h = omega arith
 
 module _ {a b : Point} (p : Piece a b) where
-  pub part-low : partOf a b < b .speed - a .speed
-  part-low = mod-lt (changeOf a b) (omega arith)
+  abbrev width : ℕ
+  width = b .speed - a .speed
 
-  pub step-low : stepOf a b ≤ 1001000000000
-  step-low = omega (arith, div-le-self (changeOf a b) (b .speed - a .speed))
+  few : width ≤ 1000
+  few = omega (arith, p .right .low-speed)
 
-  pub rest-fits : {v power rest : ℕ} → OnLine a b v power rest → Fits w64 (rest + partOf a b)
-  rest-fits l = record { fits = omega (arith, l .part, part-low, p .right .low-speed) }
+  change-is : changeOf a b + a .power ≡ b .power + 1000000000 * width
+  change-is = omega (arith, p .rises, p .left .low-power)
 
-  pub step-fits : {v power rest : ℕ} → Turned a b v power rest → Fits w64 (power + stepOf a b)
-  step-fits t = record { fits = omega (arith, t .low, step-low) }
+  change-low : changeOf a b ≤ 1001000000000
+  change-low = omega (arith, few, p .right .low-power)
 
-  module _ (v power rest : ℕ) (from : a .speed ≤ v) (h : v < b .speed) (l : OnLine a b v power rest) where
-    pub power-low : power ≤ 1000000000
-    power-low = omega (arith, line-power a b v power rest l, line-low a b v 1000000000 from h (p .left .low-power) (p .right .low-power))
+  slope-parts : width * slopeOf a b + (1048576 * changeOf a b + width - 1) % width ≡ 1048576 * changeOf a b + width - 1
+  slope-parts = div-add-mod (1048576 * changeOf a b + width - 1) width
 
-    pub power-fits : Fits w64 (power + 1)
-    power-fits = record { fits = omega (arith, power-low) }
+  slope-rest : (1048576 * changeOf a b + width - 1) % width < width
+  slope-rest = mod-lt (1048576 * changeOf a b + width - 1) (omega (arith, p .rises))
 
-    pub line-turn : (power′ rest′ : ℕ)
-        → ((b .speed - a .speed ≤ rest + partOf a b) × (power′ ≡ power + 1) × (rest′ ≡ rest + partOf a b - (b .speed - a .speed)))
-        ⊎ ((rest + partOf a b < b .speed - a .speed) × (power′ ≡ power) × (rest′ ≡ rest + partOf a b))
-        → Turned a b v power′ rest′
-    line-turn power′ rest′ came =
-        ⊎-elim
-        (λ w. on (omega (arith, add-mul power 1 (b .speed - a .speed), ap (λ (k : ℕ). k * (b .speed - a .speed)) (w .1)))
-        (omega (arith, l .part, part-low)) (omega (arith, power-low)))
-        (λ w. on (omega (arith, ap (λ (k : ℕ). k * (b .speed - a .speed)) (w .1))) (omega arith) (omega (arith, power-low)))
-        came
-      where
-        change : stepOf a b * (b .speed - a .speed) + partOf a b + a .power ≡ b .power + 1000000000 * (b .speed - a .speed)
-        change = omega (arith, div-add-mod' (changeOf a b) (b .speed - a .speed))
+  slope-low : 1048576 * changeOf a b ≤ width * slopeOf a b
+  slope-low = omega (arith, slope-parts, slope-rest, p .rises)
 
-        on : power′ * (b .speed - a .speed) + rest′ ≡ power * (b .speed - a .speed) + rest + partOf a b → rest′ < b .speed - a .speed
-            → power′ ≤ 1000000001 → Turned a b v power′ rest′
-        on e k low = record {
-          low = low;
-          room = line-room a b v from h 1000000000 (stepOf a b) (partOf a b) change power rest l power′ rest′ e k;
-          next = line-next a b v from h 1000000000 (stepOf a b) (partOf a b) change power rest l power′ rest′ e k;
-        }
+  slope-high : width * slopeOf a b < 1048576 * changeOf a b + width
+  slope-high = omega (arith, slope-parts, p .rises)
+
+  module _ (v : ℕ) (from : a .speed ≤ v) (h : v < b .speed) where
+    abbrev on : ℕ
+    on = v - a .speed
+
+    -- the line's value at a speed, times the distance of the two points' speeds
+    abbrev lineSum : ℕ
+    lineSum = a .power * (b .speed - v) + b .power * on
+
+    abbrev part : ℕ
+    part = on * slopeOf a b / 1048576
+
+    below : width * part ≤ changeOf a b * on
+    below = sloped-low (changeOf a b) width (slopeOf a b) on slope-low slope-high (omega arith) few
+
+    above : changeOf a b * on < width * part + width
+    above = sloped-high (changeOf a b) width (slopeOf a b) on slope-low slope-high (omega arith) few
+
+    sum-is : lineSum + 1000000000 * (width * on) ≡ width * a .power + changeOf a b * on
+    sum-is =
+        let all : b .speed - v + on ≡ width = omega arith in
+        omega (
+          arith,
+          mul-add (a .power) (b .speed - v) on,
+          ap (λ (k : ℕ). a .power * k) all,
+          mul-comm (a .power) width,
+          ap (λ (k : ℕ). k * on) change-is,
+          add-mul (changeOf a b) (a .power) on,
+          add-mul (b .power) (1000000000 * width) on,
+          mul-assoc 1000000000 width on,
+        )
+
+    room : 1000000000 * on ≤ a .power + part
+    room =
+        let less : 1000000000 * on < a .power + part + 1 = lt-of-mul-lt-mul-left width {m = 1000000000 * on} {n = a .power + part + 1}
+        (omega (
+          arith,
+          sum-is,
+          above,
+          mul-left-comm width 1000000000 on,
+          mul-add width (a .power + part) 1,
+          mul-add width (a .power) part,
+        )) in
+        omega arith
+
+    sloped : a .power + part - 1000000000 * on ≡ lineAt a b v
+    sloped =
+        let power = a .power + part - 1000000000 * on in
+        let back : power + 1000000000 * on ≡ a .power + part = omega (arith, room) in
+        let times : width * power + 1000000000 * (width * on) ≡ width * a .power + width * part = omega (
+          arith,
+          ap (λ (k : ℕ). width * k) back,
+          mul-add width power (1000000000 * on),
+          mul-left-comm width 1000000000 on,
+          mul-add width (a .power) part,
+        ) in
+        sym (div-eq-of-lt-le {k = power} width {m = lineSum} (omega (arith, times, sum-is, below, mul-comm power width))
+        (omega (arith, times, sum-is, above, add-mul power 1 width, mul-comm power width)))
+
+    slope-fits : on * slopeOf a b + slopeOf a b < 2 ^ 64
+    slope-fits =
+        let next : on + 1 ≤ width = omega arith in
+        omega (arith, mul-le-mul-right (slopeOf a b) next, add-mul on 1 (slopeOf a b), slope-high, change-low, few)
+
+    module _ {risen raised : ℕ} (l : OnLine a b v risen raised) where
+      abbrev power : ℕ
+      power = a .power + risen / 1048576 - raised
+
+      part-is : risen / 1048576 ≡ part
+      part-is = ap (λ (k : ℕ). k / 1048576) (l .slopes)
+
+      pub line-power : power ≡ lineAt a b v
+      line-power = rw (l .slopes, l .raises) sloped
+
+      pub power-room : raised ≤ a .power + risen / 1048576
+      power-room = omega (arith, part-is, l .raises, room)
+
+      pub power-low : power ≤ 1000000000
+      power-low = omega (arith, line-power, line-low a b v 1000000000 from h (p .left .low-power) (p .right .low-power))
+
+      pub sum-fits : Fits w64 (a .power + risen / 1048576)
+      sum-fits = record { fits = omega (arith, l .slopes, slope-fits, p .left .low-power) }
+
+      pub risen-fits : Fits w64 (risen + slopeOf a b)
+      risen-fits = record { fits = omega (arith, l .slopes, slope-fits) }
+
+      pub raised-fits : Fits w64 (raised + 1000000000)
+      raised-fits = record { fits = omega (arith, l .raises, few) }
+
+      pub line-next : OnLine a b (v + 1) (risen + slopeOf a b) (raised + 1000000000)
+      line-next =
+          let next : v + 1 - a .speed ≡ on + 1 = omega arith in
+          record { slopes = rw next (omega (arith, l .slopes, add-mul on 1 (slopeOf a b))); raises = omega (arith, l .raises) }

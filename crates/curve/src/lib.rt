@@ -52,27 +52,23 @@ pub fn power_at(curve: Curve, powers: &[u32], speed: Speed) -> Watt
 // ---- the line between two points
 
 // The straight line from a point to the next, rounded down, at each speed from the one until the other. From a speed to the next
-// its value changes by `change / width`, raised by 1,000,000,000 so that it isn't below zero: no division is needed there.
+// its value changes by `change / width`, raised by 1,000,000,000 so that it isn't below zero. `slope` is that in parts of 2^-20,
+// rounded up: over at most 1,000 speeds this adds less than 1 / width, which raises no quotient. So no cell waits for the one before.
 pub fn fill(powers: &mut [u32], s0: u64, p0: u64, s1: u64, p1: u64)
     requires { ⌜ (length (now powers) ≡ 1001) × Piece (point s0 p0) (point s1 p1) ⌝ }
     ensures { λ _. ⌜ now (powers .exit) ≡ filled (point s0 p0) (point s1 p1) (s1 - s0) s0 (now (powers .entry)) ⌝ }
 {
     let width = s1 - s0;
     let change = p1 + 1000000000 * width - p0;
-    let step = change / width;
-    let part = change % width;
+    let slope = (1048576 * change + width - 1) / width;
     let mut speed = s0;
-    let mut power = p0;
-    let mut rest: u64 = 0;
+    let mut risen: u64 = 0;
+    let mut raised: u64 = 0;
     while speed < s1 {
         let i = speed as usize;
-        powers[i] = power as u32;
-        rest += part;
-        if width <= rest {
-            rest -= width;
-            power += 1;
-        }
-        power = power + step - 1000000000;
+        powers[i] = (p0 + risen / 1048576 - raised) as u32;
+        risen += slope;
+        raised += 1000000000;
         speed += 1;
     }
 }

@@ -1,13 +1,12 @@
--- `curve::fill` meets its contract. The loop's invariant: what is still to be filled in gives the same table, and quotient and remainder
--- are the line's at the speed. Assumes nothing.
+-- `curve::fill` meets its contract. The loop's invariant: what is still to be filled in gives the same table, and slope and raise have come
+-- to what the speed asks for. Assumes nothing.
 use mathlib.Core.Path.{refl, sym, _∙_}
-use mathlib.Core.Logic.{inl, inr, ⊎-elim}
 use Prim.Native.Nat.{_-_}
 use native.Mathlib.Omega.{arith}
 use lib.ListN.{length-set}
 use Rattle.rules.specs.Terms.{Point}
 use Rattle.curve.specs.Lines.{point}
-use Rattle.curve.proofs.Line.{Turned, on-from, on-until, on-nearer, line-starts, line-power, line-turn, rest-fits, step-fits, power-low, power-fits}
+use Rattle.curve.proofs.Line.{on-from, on-until, on-nearer, line-starts, line-power, line-next, power-room, power-low, sum-fits, risen-fits, raised-fits}
 use Rattle.curve.proofs.Fills.{Filling, filled-turn, filled-done}
 use Rattle.curve.proofs.fill.Statement.{statement}
 use Rattle.curve.proofs.fill.Tie as tie
@@ -15,11 +14,11 @@ use Rattle.curve.proofs.fill.Reads as reads
 use Rattle.curve.proofs.fill.Lts as lts
 
 abbrev Inv-loop : tie.InvT-loop
-Inv-loop powers₀ s0 p0 s1 p1 width change step part speed₀ power₀ rest₀ powers speed power rest =
-    Filling (point s0 p0) (point s1 p1) powers₀ powers speed power rest
+Inv-loop powers₀ s0 p0 s1 p1 width change slope speed₀ risen₀ raised₀ powers speed risen raised =
+    Filling (point s0 p0) (point s1 p1) powers₀ powers speed risen raised
 
 abbrev μ-loop : tie.MeasureT-loop
-μ-loop powers₀ s0 p0 s1 p1 width change step part speed₀ power₀ rest₀ powers speed power rest = s1 - speed
+μ-loop powers₀ s0 p0 s1 p1 width change slope speed₀ risen₀ raised₀ powers speed risen raised = s1 - speed
 
 -- the two points
 abbrev left : lts.Start reads.Pre reads.Post Inv-loop μ-loop → Point
@@ -40,19 +39,35 @@ add-change c = omega arith
 sub-change : tie.Need-sub-change Inv-loop μ-loop
 sub-change c = omega arith
 
-div-step : tie.Need-div-step Inv-loop μ-loop
-div-step c = omega arith
+mul-slope : tie.Need-mul-slope Inv-loop μ-loop
+mul-slope c = omega arith
 
-rem-part : tie.Need-rem-part Inv-loop μ-loop
-rem-part c = omega arith
+add-slope : tie.Need-add-slope Inv-loop μ-loop
+add-slope c = omega arith
+
+sub-slope : tie.Need-sub-slope Inv-loop μ-loop
+sub-slope c = omega arith
+
+div-slope : tie.Need-div-slope Inv-loop μ-loop
+div-slope c = omega arith
 
 loop-holds : tie.Need-loop-holds Inv-loop μ-loop
-loop-holds c = record { same = refl; from = omega arith; until = omega arith; line = line-starts (left c) (right c) (omega arith); size = refl }
+loop-holds c = record { same = refl; from = omega arith; until = omega arith; line = line-starts (left c) (right c); size = refl }
+
+add-powers : tie.Need-add-powers Inv-loop μ-loop
+add-powers c =
+    let l = c .before .loop in
+    sum-fits (c .before .before .pre .1) (l .speed) (l .inv .from) (c .loop-test .taken) (l .inv .line)
+
+sub-powers : tie.Need-sub-powers Inv-loop μ-loop
+sub-powers c =
+    let l = c .before .loop in
+    power-room (c .before .before .pre .1) (l .speed) (l .inv .from) (c .loop-test .taken) (l .inv .line)
 
 cast-powers : tie.Need-cast-powers Inv-loop μ-loop
 cast-powers c =
     let l = c .before .loop in
-    let low = power-low (c .before .before .pre .1) (l .speed) (l .power) (l .rest) (l .inv .from) (c .loop-test .taken) (l .inv .line) in
+    let low = power-low (c .before .before .pre .1) (l .speed) (l .inv .from) (c .loop-test .taken) (l .inv .line) in
     omega arith
 
 mul-powers : tie.Need-mul-powers Inv-loop μ-loop
@@ -61,54 +76,34 @@ mul-powers c = omega arith
 slice-write-powers : tie.Need-slice-write-powers Inv-loop μ-loop
 slice-write-powers c = omega arith
 
-add-rest : tie.Need-add-rest Inv-loop μ-loop
-add-rest c = rest-fits (c .before .before .pre .1) (c .before .loop .inv .line)
+add-risen : tie.Need-add-risen Inv-loop μ-loop
+add-risen c =
+    let l = c .before .loop in
+    risen-fits (c .before .before .pre .1) (l .speed) (l .inv .from) (c .loop-test .taken) (l .inv .line)
 
-add-power : tie.Need-add-power Inv-loop μ-loop
-add-power c =
-    let at-loop = c .before .before in
-    let entry = at-loop .before in
-    let l = at-loop .loop in
-    power-fits (entry .pre .1) (l .speed) (l .power) (l .rest) (l .inv .from) (c .before .loop-test .taken) (l .inv .line)
-
--- a speed on, after the carry
-turned : (c : lts.After-row-known reads.Pre reads.Post Inv-loop μ-loop) →
-    let w = c .before .before .before in
-    let j = c .before .if1 in
-    Turned (left (w .before)) (right (w .before)) (w .loop .speed) (j .power) (j .rest)
-turned c =
-    let t = c .before .before in
-    let l = t .before .loop in
-    let j = c .before .if1 in
-    line-turn (t .before .before .pre .1) (l .speed) (l .power) (l .rest) (l .inv .from) (t .loop-test .taken) (l .inv .line) (j .power) (j .rest)
-    (⊎-elim (λ w. inl (w .0 .taken, w .1, w .2)) (λ w. inr (w .0 .left, w .1, w .2)) (j .came))
-
-add-power-2 : tie.Need-add-power-2 Inv-loop μ-loop
-add-power-2 c = step-fits (c .before .before .before .before .pre .1) (turned c)
-
-sub-power : tie.Need-sub-power Inv-loop μ-loop
-sub-power c = turned c .room
+add-raised : tie.Need-add-raised Inv-loop μ-loop
+add-raised c =
+    let l = c .before .loop in
+    raised-fits (c .before .before .pre .1) (l .speed) (l .inv .from) (c .loop-test .taken) (l .inv .line)
 
 add-speed : tie.Need-add-speed Inv-loop μ-loop
 add-speed c = omega arith
 
 loop-less : tie.Need-loop-less Inv-loop μ-loop
-loop-less c = on-nearer (c .before .before .loop-test .taken)
+loop-less c = on-nearer (c .loop-test .taken)
 
 loop-again : tie.Need-loop-again Inv-loop μ-loop
 loop-again c =
-    let t = c .before .before in
-    let l = t .before .loop in
-    let s = t .before .before in
-    let h = t .loop-test .taken in
+    let s = c .before .before in
+    let l = c .before .loop in
+    let h = c .loop-test .taken in
     record {
       same =
           l .inv .same
-          ∙ filled-turn (left s) (right s) (s .args .s1) (l .speed) (l .power) (l .powers) h
-          (line-power (left s) (right s) (l .speed) (l .power) (l .rest) (l .inv .line));
+          ∙ filled-turn (left s) (right s) (s .args .s1) (l .speed) _ (l .powers) h (line-power (s .pre .1) (l .speed) (l .inv .from) h (l .inv .line));
       from = on-from (l .inv .from);
       until = on-until h;
-      line = turned c .next;
+      line = line-next (s .pre .1) (l .speed) (l .inv .from) h (l .inv .line);
       size = simp length-set (l .inv .size);
     }
 
@@ -131,16 +126,18 @@ fill-spec =
     mul-change
     add-change
     sub-change
-    div-step
-    rem-part
+    mul-slope
+    add-slope
+    sub-slope
+    div-slope
     loop-holds
+    add-powers
+    sub-powers
     cast-powers
     mul-powers
     slice-write-powers
-    add-rest
-    add-power
-    add-power-2
-    sub-power
+    add-risen
+    add-raised
     add-speed
     loop-less
     loop-again
