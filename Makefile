@@ -7,7 +7,9 @@
 #                   reader made from the two pages alone (ARCHIVES=, SEED=)
 # make cases    the outside program's calls and answers for crates/cases, written anew
 # make bench    times beside the outside program's, as ratios (BEFORE=DIR: another checkout that has been built, in the same run)
-.PHONY: run test program lib install printed check-reference check-c check-install check-program check-cases cases compare check-pages bench
+# make count    instructions beside the outside program's, by valgrind (BEFORE=DIR: as for bench)
+.PHONY: run test program lib install printed check-reference check-c check-install check-program check-cases cases compare check-pages
+.PHONY: places bench count
 
 PREFIX ?= /usr/local
 PROGRAM := target/sandegmur
@@ -124,8 +126,16 @@ check-pages: lib program
 	target/reference/release/reader < $(PAGES)/cases > $(PAGES)/read && cmp $(PAGES)/lines $(PAGES)/read || { $(ASK); exit 1; }
 	@echo "no difference between the library and the reader of the pages"
 
-bench: lib program
+# The versions that bench and count take.
+VERSIONS := $(if $(BEFORE),target/bench/before) target/bench/now
+places: lib program
 	tests/places.sh . target/bench/now
 	$(if $(BEFORE),tests/places.sh $(BEFORE) target/bench/before)
+
+bench: places
 	$(CARGO) build -q --release --features compare --bin fast --bin bench
-	target/reference/release/bench 512 $(if $(BEFORE),target/bench/before) target/bench/now
+	target/reference/release/bench 512 $(VERSIONS)
+
+count: places
+	$(CARGO) build -q --release --features compare --bin once
+	tests/count.py target/reference/release/once $(VERSIONS)

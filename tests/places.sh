@@ -1,6 +1,6 @@
 #!/bin/sh
 # tests/places.sh CHECKOUT FOLDER: the library of a checkout that has been built, as shared objects 0.so to 7.so of FOLDER with its code
-# 16 bytes further on from one to the next, and its program: what `make bench` times.
+# 16 bytes further on from one to the next, and its program: what `make bench` and `make count` take.
 set -eu
 mkdir -p "$2"
 for place in 0 1 2 3 4 5 6 7; do

@@ -31,8 +31,10 @@ pub struct Place {
 }
 
 pub struct Version {
+    #[allow(dead_code)]
     pub name: String,
     pub places: Vec<Place>,
+    #[allow(dead_code)]
     pub program: PathBuf,
 }
 
@@ -50,6 +52,7 @@ impl Version {
 }
 
 impl Version {
+    #[allow(dead_code)]
     pub fn delivers(&self) -> bool {
         self.places.iter().all(|place| place.delivery_day.is_some())
     }
@@ -102,6 +105,7 @@ impl Place {
         unsafe { (self.audit)(archive.as_ptr(), archive.len()) }
     }
 
+    #[allow(dead_code)]
     pub fn delivery_day(&self, quarter: u64, holidays: &[u32], day: &mut u64) -> u32 {
         let call = self.delivery_day.expect("a version with dates");
         unsafe { call(quarter, holidays.as_ptr(), holidays.len(), day) }
