@@ -7,6 +7,7 @@ The figure of a call is its count less that of a call that does nothing. Rows th
 import functools
 import os
 import re
+import shutil
 import subprocess
 import sys
 
@@ -22,6 +23,8 @@ TABLES = [
 
 
 def run(*words):
+    if not shutil.which(words[0]):
+        sys.exit(f"{words[0]} is missing")
     done = subprocess.run(words, stdout=subprocess.PIPE, stderr=subprocess.PIPE, text=True)
     if done.returncode != 0:
         sys.exit(f"status {done.returncode}: {' '.join(words)}\n{done.stderr}")

@@ -19,7 +19,7 @@ the rest of the crate again, so one edit may hold several wrong programs:
 Of an edit with several, rt tells only that the crate isn't proved. So each of them changes the body of one function and nothing else, no
 two the body of the same: a proof reads its own function's body and the contracts of others. What the log says of a function is then about
 its own wrong program, and for each wrong program the log must have a refusal there: at a fact, and not at a name that is missing, at the
-proof's shape, or only because something else wasn't admitted. No function that is as it should be may have a refusal of its own. Every
+proof's shape, where the prover gave up, or only because something else wasn't admitted. No function that is as it should be may have a refusal of its own. Every
 public function has two wrong programs or more.
 
 A wrong rule changes definitions, which many proofs read, and a list of worked examples has to refuse it, or a law. Those that lists refuse
@@ -50,6 +50,8 @@ EXAMPLES = re.compile(r"(?:pub )?\S+ : Hold \S+$", re.M)
 # What a proof is put together from: a loop's invariant and measure, and the whole.
 PARTS = re.compile(r"Inv-|μ-|\S+-spec$")
 SHAPE = re.compile(r"record `\S+`\s+has no field\b|`\S+`: module `\S+`\s+has no\b|expected type `tie\.Need-")
+# What it says where it neither proves nor refutes.
+GAVE_UP = re.compile(r"`omega`\s+stopped\s+at\s+a\s+bound\b")
 
 
 class Change(NamedTuple):
@@ -98,7 +100,7 @@ class Refusal(NamedTuple):
         return not PASSED_ON.match(self.said)
 
     def is_fact(self):
-        return self.is_own() and not SHAPE.match(self.said) and not PARTS.match(self.what)
+        return self.is_own() and not SHAPE.match(self.said) and not GAVE_UP.search(self.said) and not PARTS.match(self.what)
 
 
 @cache

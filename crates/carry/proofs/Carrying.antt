@@ -1,5 +1,5 @@
 -- Booking one magnitude: the quotient and the remainder of the magnitude alone, and at most one Wh more from what was carried.
-use mathlib.Core.Path.{_≡_, _∙_, ap}
+use mathlib.Core.Path.{_≡_, _∙_}
 use Prim.Native.Nat.{ℕ, _+_, _*_, _-_, _/_, _%_, _^_, _≤_, _<_}
 use native.Mathlib.Nat.{div-add-mod, mod-lt, div-eq-of-lt, div-lt-self, mul-add-div, mul-add-mod-self-left, mod-eq-of-lt, mul-add, mul-comm, mul-le-mul}
 use native.Mathlib.Omega.{arith}

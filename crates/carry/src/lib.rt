@@ -115,7 +115,7 @@ fn by_four(c: Carry, magnitude: u64) -> Booked
 }
 
 // One magnitude booked, by value. The division is the magnitude's alone, so that it doesn't wait for the quarter before: by the estimate
-// where there is an inverse for it, and by a constant, which is quicker, where the rules fix the denominator.
+// where there is an inverse for it, by a constant, which is quicker, where the rules fix the denominator, and else as it is.
 fn booking(c: Carry, magnitude: u64) -> Booked
     requires { ⌜ (c .remainder < c .denominator) × (c .denominator ≤ 2 ^ 63) ⌝ }
     ensures { λ r. ⌜ r ≡ bookedOf c magnitude ⌝ }

@@ -10,16 +10,20 @@ use Rattle.rules.specs.Reference.{lineAt}
 use Rattle.rules.proofs.Curve.{line-low}
 use Rattle.curve.specs.Lines.{Piece}
 
+-- so many slopes in parts of 2^-20, without the parts
+abbrev wholes : ℕ → ℕ → ℕ
+wholes i f = i * f / 1048576
+
 -- ---- c × i / w by f, which is 2^20 × c / w rounded up
 
 module _ (c w f i : ℕ) (low : 1048576 * c ≤ w * f) (high : w * f < 1048576 * c + w) (within : i < w) (few : w ≤ 1000) where
-  abbrev pub quotient : ℕ
-  quotient = i * f / 1048576
+  abbrev quotient : ℕ
+  quotient = wholes i f
 
   product : i * (1048576 * c) ≡ 1048576 * (c * i)
   product = mul-left-comm i 1048576 c ∙ ap (λ (k : ℕ). 1048576 * k) (mul-comm i c)
 
-  pub sloped-low : w * quotient ≤ c * i
+  sloped-low : w * quotient ≤ c * i
   sloped-low =
       let most : w * f ≤ 1048576 * c + 999 = omega arith in
       let whole : 1048576 * quotient ≤ i * f = omega arith in
@@ -33,7 +37,7 @@ module _ (c w f i : ℕ) (low : 1048576 * c ≤ w * f) (high : w * f < 1048576 *
         mul-left-comm w 1048576 quotient,
       )
 
-  pub sloped-high : c * i < w * quotient + w
+  sloped-high : c * i < w * quotient + w
   sloped-high =
       let below : i * f + 1 ≤ 1048576 * quotient + 1048576 = omega arith in
       omega (
@@ -111,7 +115,7 @@ module _ {a b : Point} (p : Piece a b) where
     lineSum = a .power * (b .speed - v) + b .power * on
 
     abbrev part : ℕ
-    part = on * slopeOf a b / 1048576
+    part = wholes on (slopeOf a b)
 
     below : width * part ≤ changeOf a b * on
     below = sloped-low (changeOf a b) width (slopeOf a b) on slope-low slope-high (omega arith) few

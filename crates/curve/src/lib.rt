@@ -53,7 +53,7 @@ pub fn power_at(curve: Curve, powers: &[u32], speed: Speed) -> Watt
 
 // The straight line from a point to the next, rounded down, at each speed from the one until the other. From a speed to the next
 // its value changes by `change / width`, raised by 1,000,000,000 so that it isn't below zero. `slope` is that in parts of 2^-20,
-// rounded up: over at most 1,000 speeds this adds less than 1 / width, which raises no quotient. So no cell waits for the one before.
+// rounded up: over at most 1,000 speeds this adds less than 1 / width, which raises no quotient. So a cell waits for sums alone.
 pub fn fill(powers: &mut [u32], s0: u64, p0: u64, s1: u64, p1: u64)
     requires { ⌜ (length (now powers) ≡ 1001) × Piece (point s0 p0) (point s1 p1) ⌝ }
     ensures { λ _. ⌜ now (powers .exit) ≡ filled (point s0 p0) (point s1 p1) (s1 - s0) s0 (now (powers .entry)) ⌝ }

@@ -49,7 +49,7 @@ module _ (archive : List ℕ) (owner : ℕ) (new : List ℕ) (x : Destination) (
 
 -- ---- what is filed
 
--- a record taken over into 32 zeros
+-- a list written over one as long
 pub taken-over : (old new : List ℕ) → length new ≡ length old → put old 0 new ≡ new
 unfolding put
 taken-over old new e =

@@ -226,8 +226,8 @@ fn side_by_side(rng: &mut Rng) -> Vec<u8> {
 /// Copies of an archive of 65,535 records, 134 MB in all: more than a cache holds.
 const COPIES: usize = 64;
 
-/// Times a call on one copy of an archive after the other, so that it finds nothing of its copy in a cache. All sides must give
-/// the same.
+/// Times a call on one copy of an archive after the other, so that it finds nothing in a cache of what it reads. All sides must
+/// give the same number.
 fn cold(
     repetitions: usize,
     versions: &[Version],
@@ -295,7 +295,7 @@ fn main() {
     let rng = &mut Rng::new(7, 7);
     println!("Library and `fast` in one run, on host bytes, by turns; median of {repetitions} repetitions of at least");
     println!(
-        "{} µs each, with the library at {places} places of the code and the stack at {DEPTHS}. All inputs are warm.",
+        "{} µs each, with the library at {places} places of the code and the stack at {DEPTHS}. All inputs are warm but those out of the cache.",
         SPAN.as_micros()
     );
 
@@ -367,11 +367,18 @@ fn main() {
         row(&format!("{length} quarters"), &append(repetitions, &versions, length, rng), 1.0);
     }
 
-    // Numbers of their own, so that the later inputs are the same in every version.
+    // Numbers of their own, so that the later inputs are those of the bench before these rows.
     let cold_rng = &mut Rng::new(7, 10);
     header("65,535 records out of the cache", "ns per record met", &versions);
     let archive = side_by_side(cold_rng);
     let lent = RefCell::new((vec![0; 8 * 2_976], [0; 24]));
+    // The quarters of one plant fill a tenth of the lines or so: after a round of the copies another plant is settled, of
+    // eleven that share no line.
+    let calls = Cell::new(0);
+    let plant = || {
+        calls.set(calls.get() + 1);
+        1 + 2 * (calls.get() / COPIES as u64 % 11)
+    };
     let total = |number: u32, result: &[u8; 24]| {
         assert_eq!(number, 0);
         u64::from_le_bytes(result[8..16].try_into().unwrap())
@@ -382,11 +389,11 @@ fn main() {
         &archive,
         |place, archive| {
             let (list, result) = &mut *lent.borrow_mut();
-            total(place.settle(archive, 11, 1, list, result), result)
+            total(place.settle(archive, plant(), 1, list, result), result)
         },
         |archive| {
             let (list, result) = &mut *lent.borrow_mut();
-            total(fast::host_settle(archive, 11, 1, list, result), result)
+            total(fast::host_settle(archive, plant(), 1, list, result), result)
         },
     );
     row("settle, 2,976 quarters of one of 22 plants filed side by side", &times, 2_976.0);

@@ -49,7 +49,11 @@ add-result-3 c = search needs
 
 returns : tie.Need-returns
 unfolding linkAt
-returns c = omega arith
+returns c =
+    let third = c .before .before in
+    let second = third .before .before in
+    let first = second .before .before in
+    (rw (first .wide .ensures .0, second .wide2 .ensures .0, third .wide3 .ensures .0, c .wide4 .ensures .0) (omega arith), omega arith)
 
 pub link-at-spec : {M : Type 1} → statement M
 link-at-spec =

@@ -31,6 +31,7 @@ pub struct Place {
 }
 
 pub struct Version {
+    // Not all programs use every part.
     #[allow(dead_code)]
     pub name: String,
     pub places: Vec<Place>,
