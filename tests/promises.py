@@ -64,7 +64,7 @@ PHRASES = (
     "32 bytes, in the lent block at 32 × number",
     "64 KiB",
     "65,536 bytes and one more",
-    "1,000,000 calls of seed 2 with the code of landing 5, of seed 5 with that of landing 8, of seed 6 with that of landing 9, of seed 8 with that of landing 10, and 800 inputs of seed 7",
+    "1,000,000 calls of seed 2 with the code of landing 5, of seed 5 with that of landing 8, of seed 6 with that of landing 9, of seed 8 with that of landing 10, of seed 9 with that of landing 11, and 800 inputs of seed 7",
     "the pages of landing 5",
     "the pages of landing 8",
     "from those of landing 9",
