@@ -19,8 +19,8 @@ the rest of the crate again, so one edit may hold several wrong programs:
 Of an edit with several, rt tells only that the crate isn't proved. So each of them changes the body of one function and nothing else, no
 two the body of the same: a proof reads its own function's body and the contracts of others. What the log says of a function is then about
 its own wrong program, and for each wrong program the log must have a refusal there: at a fact, and not at a name that is missing, at the
-proof's shape, where the prover gave up, or only because something else wasn't admitted. No function that is as it should be may have a refusal of its own. Every
-public function has two wrong programs or more.
+proof's shape, where the prover gave up, or only because something else wasn't admitted. No function that is as it should be may have a
+refusal of its own. Every public function has two wrong programs or more.
 
 A wrong rule changes definitions, which many proofs read, and a list of worked examples has to refuse it, or a law. Those that lists refuse
 share an edit where no list can depend on what another one changes: a list depends on the definitions whose names stand in its text, in
