@@ -1,7 +1,8 @@
 //! The same calls written for speed, as a yardstick. No heap, one walk over the quarters, 64-bit carry.
 //!
 //! Short measures are booked with a small store and a walk along the curve's points; longer ones go on with a table
-//! of 1,001 powers and a store for 2,976 amounts. Nothing goes to the list before the last test.
+//! of 1,001 powers and a store for 2,976 amounts. Nothing goes to the list before the last test. The correction is one
+//! pass over the lists, with a second one only where a number isn't an ordinary one.
 
 use crate::calendar::LAST;
 use crate::program::MOST_BYTES;
@@ -968,6 +969,83 @@ fn by_kind(record: &[u8], number: usize, last: u32, found: &mut Option<usize>) -
         *found = Some(32 * number + at);
     }
     Ok(())
+}
+
+/// Energies and prices between minus and plus these are ordinary: raised by so much, they have no higher bit than twice
+/// that, which is tested once for all of them.
+const ORDINARY_ENERGY: u64 = 1 << 29;
+const ORDINARY_PRICE: u64 = 1 << 19;
+/// From so many quarters on, lists are taken for ordinary ones first.
+const MANY: usize = 8;
+const MOST_PRICE: i64 = 1_000_000;
+/// Parts of a cent, and cents that lift every sum above 0.
+const CENT: u64 = 1_000_000;
+const LIFTED: u64 = 6_000_000_000_000;
+
+/// The correction.
+pub fn correction(amounts: &[i64], balanced: &[i64], prices: &[i64], cents: &mut i64, remainder: &mut u64) -> u32 {
+    if amounts.len() != balanced.len() || amounts.len() != prices.len() {
+        return 22;
+    }
+    if amounts.len() > MOST_QUARTERS {
+        return 20;
+    }
+    let ordinary = if amounts.len() < MANY { None } else { ordinary_sum(amounts, balanced, prices) };
+    match ordinary.or_else(|| tested_sum(amounts, balanced, prices)) {
+        Some(sum) => {
+            // Rounded down toward minus infinity by a division of numbers that aren't below 0.
+            let lifted = (sum as u64).wrapping_add(LIFTED * CENT);
+            let whole = lifted / CENT;
+            *cents = whole as i64 - LIFTED as i64;
+            *remainder = lifted - whole * CENT;
+            0
+        }
+        None if amounts.iter().chain(balanced).any(|&energy| beyond(energy, i64::from(LIMIT))) => 20,
+        None => 21,
+    }
+}
+
+#[inline(always)]
+fn beyond(value: i64, most: i64) -> bool {
+    value.wrapping_add(most) as u64 > 2 * most as u64
+}
+
+/// The sum of the products, if no number is out of its range.
+#[inline(always)]
+fn tested_sum(amounts: &[i64], balanced: &[i64], prices: &[i64]) -> Option<i64> {
+    let mut sum = 0;
+    for ((&amount, &balanced), &price) in amounts.iter().zip(balanced).zip(prices) {
+        if beyond(amount, i64::from(LIMIT)) || beyond(balanced, i64::from(LIMIT)) || beyond(price, MOST_PRICE) {
+            return None;
+        }
+        sum += (amount - balanced) * price;
+    }
+    Some(sum)
+}
+
+/// The same if all numbers are ordinary. They are raised above 0 first, as unsigned products of 32 bits can be made
+/// several at a time, and what that adds to the sum is taken off at the end.
+#[inline(always)]
+fn ordinary_sum(amounts: &[i64], balanced: &[i64], prices: &[i64]) -> Option<i64> {
+    let (mut energy_bits, mut price_bits) = (0, 0);
+    let (mut products, mut gaps, mut raised_prices) = (0u64, 0u64, 0u64);
+    for ((&amount, &balanced), &price) in amounts.iter().zip(balanced).zip(prices) {
+        let amount = ORDINARY_ENERGY.wrapping_add(amount as u64);
+        let balanced = ORDINARY_ENERGY.wrapping_sub(balanced as u64);
+        let price = ORDINARY_PRICE.wrapping_add(price as u64);
+        energy_bits |= amount | balanced;
+        price_bits |= price;
+        let gap = amount.wrapping_add(balanced);
+        products = products.wrapping_add((gap & 0xffff_ffff) * (price & 0xffff_ffff));
+        gaps = gaps.wrapping_add(gap);
+        raised_prices = raised_prices.wrapping_add(price);
+    }
+    if energy_bits >= 2 * ORDINARY_ENERGY || price_bits >= 2 * ORDINARY_PRICE {
+        return None;
+    }
+    let raised = gaps * ORDINARY_PRICE + raised_prices * (2 * ORDINARY_ENERGY);
+    let twice = amounts.len() as u64 * (2 * ORDINARY_ENERGY * ORDINARY_PRICE);
+    Some(products.wrapping_sub(raised).wrapping_add(twice) as i64)
 }
 
 /// Lines of numbers, handed on in parts of up to 64 KB.

@@ -1,11 +1,12 @@
-//! Seeded calls on document 01's archive, request 1's calendar, request 2's last record and request 3's readings: valid
-//! ones, one fault, several faults, mutations and noise.
+//! Seeded calls on document 01's archive, request 1's calendar, request 2's last record, request 3's readings and
+//! request 5's lists: valid ones, one fault, several faults, mutations and noise.
 //!
 //! Every seed and index gives one call, the same everywhere.
 
 use crate::archive::*;
 use crate::builder::*;
 use crate::calendar::{self, Day, QuarterHour, LAST};
+use crate::correction::MOST_QUARTERS;
 use crate::rng::Rng;
 use crate::settle::{curve_power, Pairing, OCTOBER};
 
@@ -19,16 +20,18 @@ pub enum Call {
     Audit { archive: Vec<u8> },
     DeliveryDay { quarter: u64, holidays: Vec<u32> },
     TakeBack { archive: Vec<u8> },
+    Correction { amounts: Vec<i64>, balanced: Vec<i64>, prices: Vec<i64> },
 }
 
 /// The numbers that each call can give.
-pub const NUMBERS: [(&str, &[Refusal]); 6] = [
+pub const NUMBERS: [(&str, &[Refusal]); 7] = [
     ("settle", &[0, 1, 2, 3, 4, 5, 6, 7, 8, 9, 10, 11, 12, 13, 18]),
     ("append", &[0, 1, 2, 3, 14, 15, 16]),
     ("audit", &[0, 1, 2, 3, 17]),
     ("fresh", &[0, 1]),
     ("delivery day", &[0, 18]),
     ("take back", &[0, 1, 19]),
+    ("correction", &[0, 20, 21, 22]),
 ];
 
 /// The pairings and directions that can settle, each in executions 1 to 3.
@@ -58,7 +61,8 @@ pub struct Case {
 pub fn call(seed: u64, index: u64) -> Case {
     let mut rng = Rng::new(seed, index);
     match rng.below(100) {
-        0..=53 => settle_case(&mut rng),
+        0..=48 => settle_case(&mut rng),
+        49..=53 => correction_case(&mut rng),
         54..=59 => take_back_case(&mut rng),
         60..=74 => append_case(&mut rng),
         75..=85 => audit_case(&mut rng),
@@ -2296,6 +2300,226 @@ fn take_back_case(rng: &mut Rng) -> Case {
         _ => {}
     }
     Case { call: Call::TakeBack { archive: filed.bytes }, expected }
+}
+
+// ---------------------------------------------------------------------------------------------------------------
+// Correction
+
+/// The end of the range of prices; that of energies is `LIMIT`.
+const MOST_PRICE: i64 = 1_000_000;
+/// Parts of a cent.
+const CENT: i64 = 1_000_000;
+
+/// Amount, balanced energy and price.
+type Priced = [i64; 3];
+/// The ends of their ranges.
+const ENDS: Priced = [LIMIT, LIMIT, MOST_PRICE];
+
+/// One thing wrong with a correction; the comment gives the number.
+#[derive(Clone, Copy, Debug, PartialEq, Eq)]
+enum Wrong {
+    // 22
+    Unequal,
+    // 20
+    Many,
+    Amount,
+    Balanced,
+    // 21
+    Price,
+}
+
+#[rustfmt::skip]
+const WRONGS: &[Wrong] = &[
+    Wrong::Unequal, Wrong::Unequal, Wrong::Unequal, Wrong::Unequal, Wrong::Many,
+    Wrong::Amount, Wrong::Amount, Wrong::Amount, Wrong::Balanced, Wrong::Balanced, Wrong::Balanced,
+    Wrong::Price, Wrong::Price, Wrong::Price, Wrong::Price,
+];
+
+/// From -`most` to `most`, the ends often.
+fn allowed(rng: &mut Rng, most: i64) -> i64 {
+    match rng.below(10) {
+        0 | 1 => rng.pick(&[-most, 1 - most, -1, 0, 1, most - 1, most]),
+        2 => rng.range(-12, 12),
+        3..=5 => rng.range(-most / 1_000, most / 50),
+        _ => rng.range(-most, most),
+    }
+}
+
+/// Beyond `most`: beside it, an allowed number but for 2^32 or 2^63, or any other.
+fn beyond(rng: &mut Rng, most: i64) -> i64 {
+    let near = allowed(rng, most);
+    let value = match rng.below(10) {
+        0..=2 => most + 1,
+        3 => rng.pick(&[i64::MIN + 1, i64::MAX - 1, i64::MAX]),
+        4 => near + (1 << 32),
+        5 => near + (rng.range(1, 1 << 30) << 32),
+        6 => near ^ i64::MIN,
+        7 => rng.pick(&[i64::from(i32::MAX), 1 << 31, i64::from(u32::MAX), 1 << 32, 1 << 53, 1 << 62]),
+        8 => rng.range(most + 1, 1_000 * most),
+        _ => rng.range(most + 1, i64::MAX),
+    };
+    match rng.below(20) {
+        0 => i64::MIN,
+        1..=10 => value.wrapping_neg(),
+        _ => value,
+    }
+}
+
+/// Amount and balanced energy with this gap, both in their range.
+fn with_gap(rng: &mut Rng, gap: i64) -> (i64, i64) {
+    let amount = rng.range((gap - LIMIT).max(-LIMIT), (gap + LIMIT).min(LIMIT));
+    (amount, amount - gap)
+}
+
+/// How many quarters: few of them mostly, a day or the most of them rarely.
+fn quarter_count(rng: &mut Rng) -> usize {
+    match rng.below(200) {
+        0..=9 => 0,
+        10..=59 => 1,
+        60..=89 => 2 + rng.below(2),
+        90..=159 => 4 + rng.below(9),
+        160..=185 => 13 + rng.below(40),
+        186..=193 => rng.pick(&[95, 96, 96, 97]),
+        194 | 195 => rng.range(98, 2_974) as usize,
+        196 => MOST_QUARTERS - 1,
+        _ => MOST_QUARTERS,
+    }
+}
+
+/// Quarters of numbers in their ranges.
+fn priced(rng: &mut Rng, count: usize) -> Vec<Priced> {
+    let sign = rng.pick(&[-1, 1]);
+    let mut quarters: Vec<Priced> = Vec::new();
+    match rng.below(10) {
+        // The largest products of one sign.
+        0 => {
+            let price = rng.pick(&[-MOST_PRICE, MOST_PRICE]);
+            quarters = vec![[sign * LIMIT, -sign * LIMIT, price]; count];
+        }
+        // Others beside them.
+        1 => {
+            for _ in 0..count {
+                let gap = sign * (2 * LIMIT - rng.range(0, 1_000));
+                let (amount, balanced) = with_gap(rng, gap);
+                quarters.push([amount, balanced, MOST_PRICE - rng.range(0, 1_000)]);
+            }
+        }
+        // The same small quarter again and again.
+        2 => {
+            let gap = sign * rng.pick(&[1, 1, 1, 2, 3, 999_999]);
+            let (amount, balanced) = with_gap(rng, gap);
+            quarters = vec![[amount, balanced, rng.pick(&[-2, -1, 1, 1, 1, 2, 500_000])]; count];
+        }
+        // Each second one takes the first one's product off again.
+        3 => {
+            for at in 0..count {
+                let [amount, balanced, price] = ENDS.map(|most| allowed(rng, most));
+                quarters.push(match quarters.last() {
+                    Some(&[amount, balanced, price]) if at % 2 == 1 && rng.chance(50) => [amount, balanced, -price],
+                    Some(&[amount, balanced, price]) if at % 2 == 1 => [balanced, amount, price],
+                    _ => [amount, balanced, price],
+                });
+            }
+        }
+        _ => quarters = (0..count).map(|_| ENDS.map(|most| allowed(rng, most))).collect(),
+    }
+    if rng.chance(60) {
+        aim(rng, &mut quarters);
+    }
+    quarters
+}
+
+/// Makes one quarter such that the sum is a whole number of cents, half a cent more, or beside these.
+fn aim(rng: &mut Rng, quarters: &mut [Priced]) {
+    if quarters.is_empty() {
+        return;
+    }
+    let at = rng.below(quarters.len());
+    quarters[at] = [0; 3];
+    let sum: i64 = quarters.iter().map(|&[amount, balanced, price]| (amount - balanced) * price).sum();
+    let rest = rng.pick(&[0, 0, 0, 1, 1, CENT / 2 - 1, CENT / 2, CENT / 2 + 1, CENT - 1, CENT - 1]);
+    let gap = (rest - sum).rem_euclid(CENT) + CENT * rng.range(-3, 2);
+    let sign = rng.pick(&[-1, 1]);
+    let (amount, balanced) = with_gap(rng, sign * gap);
+    quarters[at] = [amount, balanced, sign];
+}
+
+/// Makes one or two of the lists shorter or longer.
+fn unequal(rng: &mut Rng, lists: &mut [Vec<i64>; 3]) {
+    let all = lists[0].len();
+    let kept = rng.below(3);
+    for other in [(kept + 1) % 3, (kept + 2) % 3] {
+        if rng.chance(60) {
+            let length = rng.pick(&[all.saturating_sub(1), all.saturating_sub(1), all + 1, all + 1, 0, 1, all / 2]);
+            lists[other].resize(length, 0);
+        }
+    }
+    if lists.iter().all(|list| list.len() == all) {
+        lists[(kept + 1) % 3].push(1);
+    }
+}
+
+fn correction_case(rng: &mut Rng) -> Case {
+    match rng.below(150) {
+        0..=2 => {
+            // Any numbers.
+            let [amounts, balanced, prices] = [(); 3].map(|()| {
+                let count = rng.below(3);
+                (0..count).map(|_| rng.word() as i64).collect()
+            });
+            return Case { call: Call::Correction { amounts, balanced, prices }, expected: None };
+        }
+        3 => {
+            // The largest sum, or the least.
+            let (energy, price) = (rng.pick(&[-LIMIT, LIMIT]), rng.pick(&[-MOST_PRICE, MOST_PRICE]));
+            let [amounts, balanced, prices] = [energy, -energy, price].map(|number| vec![number; MOST_QUARTERS]);
+            return Case { call: Call::Correction { amounts, balanced, prices }, expected: Some(0) };
+        }
+        _ => {}
+    }
+    let mut wrongs = Vec::new();
+    for _ in 0..rng.pick(&[0, 0, 0, 0, 0, 0, 1, 1, 1, 2, 2, 3]) {
+        wrongs.push(rng.pick(WRONGS));
+    }
+    let has = |wrong: Wrong| wrongs.contains(&wrong);
+    let count = if has(Wrong::Many) {
+        rng.pick(&[2_977, 2_977, 2_977, 2_978, 2_980, 3_000])
+    } else if has(Wrong::Amount) || has(Wrong::Balanced) || has(Wrong::Price) {
+        quarter_count(rng).max(1)
+    } else {
+        quarter_count(rng)
+    };
+    let quarters = priced(rng, count);
+    let mut lists = [0, 1, 2].map(|at| quarters.iter().map(|quarter| quarter[at]).collect::<Vec<i64>>());
+    if has(Wrong::Unequal) {
+        unequal(rng, &mut lists);
+    }
+    for &wrong in &wrongs {
+        let at = match wrong {
+            Wrong::Amount => 0,
+            Wrong::Balanced => 1,
+            Wrong::Price => 2,
+            Wrong::Unequal | Wrong::Many => continue,
+        };
+        // An empty list is one of unequal lists.
+        let length = lists[at].len();
+        if length > 0 {
+            let any = rng.below(length);
+            let place = rng.pick(&[0, length - 1, any]);
+            lists[at][place] = beyond(rng, ENDS[at]);
+        }
+    }
+    let expected = if has(Wrong::Unequal) {
+        22
+    } else if has(Wrong::Many) || has(Wrong::Amount) || has(Wrong::Balanced) {
+        20
+    } else if has(Wrong::Price) {
+        21
+    } else {
+        0
+    };
+    let [amounts, balanced, prices] = lists;
+    Case { call: Call::Correction { amounts, balanced, prices }, expected: Some(expected) }
 }
 
 // ---------------------------------------------------------------------------------------------------------------

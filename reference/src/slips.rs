@@ -1,10 +1,11 @@
-//! Wrong readings of document 01 and of requests 1 to 3, one at a time. A generated call reaches a situation if the
-//! wrong reading gives another outcome there than the right one; an example on the pages shows it in the same way. With
-//! `Slip::None` every call gives what the plain modules give.
+//! Wrong readings of document 01 and of requests 1 to 3 and 5, one at a time. A generated call reaches a situation if
+//! the wrong reading gives another outcome there than the right one; an example on the pages shows it in the same way.
+//! With `Slip::None` every call gives what the plain modules give.
 
 use crate::archive::*;
 use crate::calendar::{days_of_month, next_month, LAST};
 use crate::settle::{curve_power, Pairing, CURVE_POWER, IRRADIANCE, NOMINAL, NONE, OCTOBER, POWER, SPEED};
+use std::ops::RangeInclusive;
 
 /// Which call a slip belongs to.
 #[derive(Clone, Copy, Debug, PartialEq, Eq)]
@@ -16,6 +17,7 @@ pub enum Of {
     Audit,
     DeliveryDay,
     TakeBack,
+    Correction,
     Program,
 }
 
@@ -259,6 +261,63 @@ slips! {
         BackZeroedRefused TakeBack "02, 2" "a naming link zeroed although the call is refused"
         BackUnusedCleared TakeBack "02, 2" "all records from U - 1 on cleared"
         BackSound TakeBack "02, 2" "an archive that audit refuses is 17"
+        CentsEach Correction "02, 5" "each quarter split by itself, cents and remainders added"
+        CentsEachRounded Correction "02, 5" "cents of each quarter rounded down, remainder that of the sum"
+        CentsTowardZero Correction "02, 5" "cents rounded toward zero"
+        CentsMachine Correction "02, 5" "cents rounded toward zero, remainder below 0"
+        CentsMagnitude Correction "02, 5" "cents rounded toward zero, remainder without its sign"
+        CentsRemainderSign Correction "02, 5" "remainder that of the sum without its sign"
+        CentsNearest Correction "02, 5" "cents rounded to the nearest"
+        CentsUp Correction "02, 5" "cents rounded up"
+        CentsWholeLower Correction "02, 5" "whole cents below 0 taken a cent lower, with remainder 1,000,000"
+        CentsDoubles Correction "02, 5" "sum kept in doubles"
+        CentsQuotientDouble Correction "02, 5" "cents by a division of doubles"
+        CentsProductNarrow Correction "02, 5" "products kept in 32 bits"
+        CentsSumNarrow Correction "02, 5" "sum kept in 32 bits"
+        CentsKilo Correction "02, 5" "divided by 1,000"
+        CentsGapSwapped Correction "02, 5" "amount taken off the balanced energy"
+        CentsGapAbsolute Correction "02, 5" "gap without its sign"
+        CentsGapRaised Correction "02, 5" "gap below 0 raised to 0"
+        CentsPriceIgnored Correction "02, 5" "gap not multiplied by the price"
+        CentsPriceAbsolute Correction "02, 5" "price without its sign"
+        CentsFirstQuarter Correction "02, 5" "first quarter alone"
+        CentsLastQuarter Correction "02, 5" "last quarter alone"
+        CentsPriceFirst Correction "02, 5" "21 before 20"
+        CentsByPlace Correction "02, 5" "20 or 21 by the first bad place"
+        CentsManyLast Correction "02, 5" "more than 2,976 quarters is 20 behind 21"
+        CentsUnequalLast Correction "02, 5" "22 behind 20 and 21"
+        CentsUnequalBetween Correction "02, 5" "22 behind 20 and before 21"
+        CentsManyFirst Correction "02, 5" "more than 2,976 quarters is 20 before 22"
+        CentsManyTaken Correction "02, 5" "2,977 quarters taken"
+        CentsMostRefused Correction "02, 5" "2,976 quarters refused"
+        CentsEmptyRefused Correction "02, 5!" "three empty lists are 20"
+        CentsShortest Correction "02, 5" "unequal lists taken as far as the shortest one goes"
+        CentsPricesUncompared Correction "02, 5" "only amounts and balanced energies compared for 22"
+        CentsBalancedUncompared Correction "02, 5" "only amounts and prices compared for 22"
+        CentsAmountUntested Correction "02, 5" "amounts not tested"
+        CentsBalancedUntested Correction "02, 5" "balanced energies not tested"
+        CentsPriceUntested Correction "02, 5" "prices not tested"
+        CentsPriceLowFree Correction "02, 5" "low end of prices not tested"
+        CentsPriceHighFree Correction "02, 5" "high end of prices not tested"
+        CentsPriceUnsigned Correction "02, 5" "prices taken for unsigned: 21 below 0"
+        CentsAmountHighEdge Correction "02, 5" "an amount of 1,000,000,000 refused"
+        CentsAmountHighMore Correction "02, 5" "an amount of 1,000,000,001 taken"
+        CentsAmountLowEdge Correction "02, 5" "an amount of -1,000,000,000 refused"
+        CentsAmountLowMore Correction "02, 5" "an amount of -1,000,000,001 taken"
+        CentsBalancedHighEdge Correction "02, 5" "a balanced energy of 1,000,000,000 refused"
+        CentsBalancedHighMore Correction "02, 5" "a balanced energy of 1,000,000,001 taken"
+        CentsBalancedLowEdge Correction "02, 5" "a balanced energy of -1,000,000,000 refused"
+        CentsBalancedLowMore Correction "02, 5" "a balanced energy of -1,000,000,001 taken"
+        CentsPriceHighEdge Correction "02, 5" "a price of 1,000,000 refused"
+        CentsPriceHighMore Correction "02, 5" "a price of 1,000,001 taken"
+        CentsPriceLowEdge Correction "02, 5" "a price of -1,000,000 refused"
+        CentsPriceLowMore Correction "02, 5" "a price of -1,000,001 taken"
+        CentsGapTested Correction "02, 5" "gap tested in place of amount and balanced energy"
+        CentsAmountNarrow Correction "02, 5" "amounts cut to 32 bits"
+        CentsBalancedNarrow Correction "02, 5" "balanced energies cut to 32 bits"
+        CentsPriceNarrow Correction "02, 5" "prices cut to 32 bits"
+        CentsWritten Correction "02, 5" "cents set to 0 on a refusal"
+        CentsRemainderWritten Correction "02, 5" "remainder set to 0 on a refusal"
         LowerGoesOn Program "75!" "2 or 3 below a measure leads on to the next measure"
         FixedStore Program "81!" "no more Q lines than 2,048 records"
         SixSkips Program "79" "6 leads on to the next plant"
@@ -536,6 +595,42 @@ slips! {
         BackPointPower TakeBack "F 17" "bytes 12-15 of kind 2 taken for a link"
         BackBeforeFree TakeBack "F 17" "bytes 12-15 of kind 4 taken for a link"
         BackNominal TakeBack "F 17" "bytes 16-19 of kind 1 taken for a link"
+        CentsLastRemainder Correction "R 15" "each quarter split by itself, the last one's remainder given"
+        CentsAway Correction "R 15" "cents rounded away from zero"
+        CentsEuro Correction "R 15" "divided by 100,000,000"
+        CentsKilowattHours Correction "R 15" "gap rounded down to whole kWh before it is multiplied"
+        CentsGapAdded Correction "R 15" "balanced energy added to the amount"
+        CentsBalancedIgnored Correction "R 15" "balanced energy not taken off"
+        CentsFirstPrice Correction "R 15" "first price taken for all quarters"
+        CentsSumsMultiplied Correction "R 15" "sum of the gaps multiplied by the sum of the prices"
+        CentsLastLeftOut Correction "R 15" "last quarter left out"
+        CentsProductRaised Correction "R 15" "products below 0 raised to 0"
+        CentsGapTestedToo Correction "F 18" "a gap beyond 1,000,000,000 is 20 too"
+        CentsAmountLowFree Correction "F 18" "low end of amounts not tested"
+        CentsAmountHighFree Correction "F 18" "high end of amounts not tested"
+        CentsBalancedLowFree Correction "F 18" "low end of balanced energies not tested"
+        CentsBalancedHighFree Correction "F 18" "high end of balanced energies not tested"
+        CentsAmountUnsigned Correction "F 18" "amounts taken for unsigned: 20 below 0"
+        CentsBalancedUnsigned Correction "F 18" "balanced energies taken for unsigned: 20 below 0"
+        CentsPriceAsEnergy Correction "F 18" "prices allowed as far as energies"
+        CentsEnergyAsPrice Correction "F 18" "energies allowed as far as prices"
+        CentsFirstTested Correction "F 18" "numbers of the first quarter alone tested"
+        CentsLastUntested Correction "F 18" "numbers of the last quarter not tested"
+        CentsPriceTwenty Correction "F 18" "a price out of range is 20"
+        CentsBalancedTwentyOne Correction "F 18" "a balanced energy out of range is 21"
+        CentsUnequalTwenty Correction "F 18" "unequal lists are 20"
+        CentsManyTwentyTwo Correction "F 18" "more than 2,976 quarters is 22"
+        CentsManyEight Correction "F 18" "more than 2,976 quarters is 8"
+        CentsNine Correction "F 18" "a number out of range is 9"
+        CentsAmountUncompared Correction "F 18" "only balanced energies and prices compared for 22"
+        CentsMissingZero Correction "F 18" "missing places of shorter lists taken for 0"
+        CentsOnePrice Correction "F 18" "a single price taken for all quarters"
+        CentsNoBalanced Correction "F 18" "an empty list of balanced energies taken for zeros"
+        CentsLessRefused Correction "F 18" "2,975 quarters refused"
+        CentsThirtyDays Correction "F 18" "more than 2,880 quarters refused"
+        CentsAnyCount Correction "F 18" "any number of quarters taken"
+        CentsEmptyKept Correction "F 18" "cents and remainder left as they were for three empty lists"
+        CentsSumWritten Correction "F 18" "cents and remainder written where a price is 21"
         FiveEnds Program "F 12" "5 ends the program"
         FiveLine Program "F 12" "a line for 5"
         FourLine Program "F 12" "a line for 4"
@@ -2198,6 +2293,315 @@ fn due(slip: Slip, quarter: u64, holidays: &[u32]) -> Result<u64, Refusal> {
         Slip::DueDayOfMonth => found - next + 1,
         _ => found,
     })
+}
+
+/// Slips about the ends of amounts, of balanced energies and of prices: in each row the low end one less far, one
+/// further, free and 0, the high end one less far, one further and free, and both ends free.
+const ENDS: [[Slip; 8]; 3] = [
+    [
+        Slip::CentsAmountLowEdge,
+        Slip::CentsAmountLowMore,
+        Slip::CentsAmountLowFree,
+        Slip::CentsAmountUnsigned,
+        Slip::CentsAmountHighEdge,
+        Slip::CentsAmountHighMore,
+        Slip::CentsAmountHighFree,
+        Slip::CentsAmountUntested,
+    ],
+    [
+        Slip::CentsBalancedLowEdge,
+        Slip::CentsBalancedLowMore,
+        Slip::CentsBalancedLowFree,
+        Slip::CentsBalancedUnsigned,
+        Slip::CentsBalancedHighEdge,
+        Slip::CentsBalancedHighMore,
+        Slip::CentsBalancedHighFree,
+        Slip::CentsBalancedUntested,
+    ],
+    [
+        Slip::CentsPriceLowEdge,
+        Slip::CentsPriceLowMore,
+        Slip::CentsPriceLowFree,
+        Slip::CentsPriceUnsigned,
+        Slip::CentsPriceHighEdge,
+        Slip::CentsPriceHighMore,
+        Slip::CentsPriceHighFree,
+        Slip::CentsPriceUntested,
+    ],
+];
+
+const MOST_ENERGY: i128 = 1_000_000_000;
+const MOST_PRICE: i128 = 1_000_000;
+
+/// Which numbers of a list are allowed.
+fn priced_range(slip: Slip, list: usize) -> RangeInclusive<i128> {
+    const FREE: i128 = 1 << 64;
+    let most = match (slip, list) {
+        (Slip::CentsPriceAsEnergy, _) => MOST_ENERGY,
+        (Slip::CentsEnergyAsPrice, _) | (_, 2) => MOST_PRICE,
+        _ => MOST_ENERGY,
+    };
+    match ENDS[list].iter().position(|&own| own == slip) {
+        Some(0) => 1 - most..=most,
+        Some(1) => -most - 1..=most,
+        Some(2) => -FREE..=most,
+        Some(3) => 0..=most,
+        Some(4) => -most..=most - 1,
+        Some(5) => -most..=most + 1,
+        Some(6) => -most..=FREE,
+        Some(_) => -FREE..=FREE,
+        None => -most..=most,
+    }
+}
+
+/// The three lists of a correction, read with one slip.
+struct Lists {
+    slip: Slip,
+    lists: [Vec<i128>; 3],
+}
+
+impl Lists {
+    fn new(slip: Slip, lists: [&[i64]; 3]) -> Lists {
+        let narrow = [Slip::CentsAmountNarrow, Slip::CentsBalancedNarrow, Slip::CentsPriceNarrow];
+        let read = |list: usize| {
+            let cut = slip == narrow[list];
+            lists[list].iter().map(|&one| if cut { i128::from(one as i32) } else { i128::from(one) }).collect()
+        };
+        Lists { slip, lists: [0, 1, 2].map(read) }
+    }
+
+    fn is(&self, other: Slip) -> bool {
+        self.slip == other
+    }
+
+    fn lengths(&self) -> [usize; 3] {
+        [0, 1, 2].map(|list| self.lists[list].len())
+    }
+
+    /// The places that are taken, and summed where nothing is refused.
+    fn count(&self) -> usize {
+        let [amounts, balanced, prices] = self.lengths();
+        match self.slip {
+            Slip::CentsShortest
+            | Slip::CentsPricesUncompared
+            | Slip::CentsBalancedUncompared
+            | Slip::CentsAmountUncompared => amounts.min(balanced).min(prices),
+            Slip::CentsMissingZero => amounts.max(balanced).max(prices),
+            _ => amounts,
+        }
+    }
+
+    fn number(&self, list: usize, place: usize) -> i128 {
+        match self.lists[list].get(place) {
+            Some(&one) => one,
+            None if self.is(Slip::CentsOnePrice) => self.lists[list][0],
+            None => 0,
+        }
+    }
+
+    fn gap(&self, place: usize) -> i128 {
+        let (amount, balanced) = (self.number(0, place), self.number(1, place));
+        match self.slip {
+            Slip::CentsGapSwapped => balanced - amount,
+            Slip::CentsGapAbsolute => (amount - balanced).abs(),
+            Slip::CentsGapRaised => (amount - balanced).max(0),
+            Slip::CentsGapAdded => amount + balanced,
+            Slip::CentsBalancedIgnored => amount,
+            Slip::CentsKilowattHours => (amount - balanced).div_euclid(1_000) * 1_000,
+            _ => amount - balanced,
+        }
+    }
+
+    fn product(&self, place: usize) -> i128 {
+        let price = match self.slip {
+            Slip::CentsPriceIgnored => 1,
+            Slip::CentsPriceAbsolute => self.number(2, place).abs(),
+            Slip::CentsFirstPrice => self.number(2, 0),
+            _ => self.number(2, place),
+        };
+        let product = self.gap(place).wrapping_mul(price);
+        match self.slip {
+            Slip::CentsProductNarrow => i128::from(product as i32),
+            Slip::CentsProductRaised => product.max(0),
+            _ => product,
+        }
+    }
+
+    /// Whether a number of a list is out of its range, at one place or at any that is tested.
+    fn bad_at(&self, list: usize, place: usize) -> bool {
+        self.lists[list].get(place).map_or(false, |one| !priced_range(self.slip, list).contains(one))
+    }
+
+    fn bad(&self, list: usize) -> bool {
+        let length = self.lists[list].len();
+        let tested = match self.slip {
+            Slip::CentsFirstTested => length.min(1),
+            Slip::CentsLastUntested => length.saturating_sub(1),
+            _ => length,
+        };
+        (0..tested).any(|place| self.bad_at(list, place))
+    }
+
+    /// 22.
+    fn unequal(&self) -> Result<(), Refusal> {
+        let [amounts, balanced, prices] = self.lengths();
+        let equal = match self.slip {
+            Slip::CentsShortest | Slip::CentsMissingZero => true,
+            Slip::CentsPricesUncompared => amounts == balanced,
+            Slip::CentsBalancedUncompared => amounts == prices,
+            Slip::CentsAmountUncompared => balanced == prices,
+            Slip::CentsOnePrice => amounts == balanced && (amounts == prices || prices == 1),
+            Slip::CentsNoBalanced => amounts == prices && (amounts == balanced || balanced == 0),
+            _ => amounts == balanced && amounts == prices,
+        };
+        test(equal, if self.is(Slip::CentsUnequalTwenty) { 20 } else { 22 })
+    }
+
+    /// 20 for more than 2,976 quarters.
+    fn many(&self) -> Result<(), Refusal> {
+        let most = match self.slip {
+            Slip::CentsManyTaken => 2_977,
+            Slip::CentsMostRefused => 2_975,
+            Slip::CentsLessRefused => 2_974,
+            Slip::CentsThirtyDays => 2_880,
+            Slip::CentsAnyCount => usize::MAX,
+            _ => 2_976,
+        };
+        let number = match self.slip {
+            Slip::CentsManyTwentyTwo => 22,
+            Slip::CentsManyEight => 8,
+            _ => 20,
+        };
+        let least = if self.is(Slip::CentsEmptyRefused) { 1 } else { 0 };
+        let longest = self.lengths().into_iter().max().unwrap_or(0);
+        test((least..=most).contains(&longest), number)
+    }
+
+    /// 20 for amounts and balanced energies.
+    fn energies(&self) -> Result<(), Refusal> {
+        let number = if self.is(Slip::CentsNine) { 9 } else { 20 };
+        let gap = || (0..self.count()).any(|place| self.gap(place).abs() > MOST_ENERGY);
+        let bad = match self.slip {
+            Slip::CentsGapTested => gap(),
+            Slip::CentsGapTestedToo => self.bad(0) || self.bad(1) || gap(),
+            Slip::CentsBalancedTwentyOne => self.bad(0),
+            _ => self.bad(0) || self.bad(1),
+        };
+        test(!bad, number)
+    }
+
+    /// 21.
+    fn prices(&self) -> Result<(), Refusal> {
+        let number = match self.slip {
+            Slip::CentsNine => 9,
+            Slip::CentsPriceTwenty => 20,
+            _ => 21,
+        };
+        let bad = self.bad(2) || self.is(Slip::CentsBalancedTwentyOne) && self.bad(1);
+        test(!bad, number)
+    }
+
+    /// 20 or 21 at each place in turn.
+    fn by_place(&self) -> Result<(), Refusal> {
+        let longest = self.lengths().into_iter().max().unwrap_or(0);
+        (0..longest).try_for_each(|place| {
+            test(!self.bad_at(0, place) && !self.bad_at(1, place), 20)?;
+            test(!self.bad_at(2, place), 21)
+        })
+    }
+
+    fn tested(&self) -> Result<(), Refusal> {
+        type Test = fn(&Lists) -> Result<(), Refusal>;
+        let (unequal, many, energies, prices): (Test, Test, Test, Test) =
+            (Lists::unequal, Lists::many, Lists::energies, Lists::prices);
+        let order = match self.slip {
+            Slip::CentsPriceFirst => [unequal, prices, many, energies],
+            Slip::CentsByPlace => [unequal, many, Lists::by_place, Lists::by_place],
+            Slip::CentsManyLast => [unequal, energies, prices, many],
+            Slip::CentsUnequalLast => [many, energies, prices, unequal],
+            Slip::CentsUnequalBetween => [many, energies, unequal, prices],
+            Slip::CentsManyFirst => [many, unequal, energies, prices],
+            _ => [unequal, many, energies, prices],
+        };
+        order.iter().try_for_each(|test| test(self))
+    }
+
+    /// Cents and remainder.
+    fn split(&self) -> (i64, u64) {
+        let count = self.count();
+        let taken = match self.slip {
+            Slip::CentsFirstQuarter => 0..count.min(1),
+            Slip::CentsLastQuarter => count.saturating_sub(1)..count,
+            Slip::CentsLastLeftOut => 0..count.saturating_sub(1),
+            _ => 0..count,
+        };
+        let products: Vec<i128> = taken.map(|place| self.product(place)).collect();
+        let add = |sum: i128, one: i128| sum.wrapping_add(one);
+        let exact = products.iter().copied().fold(0, add);
+        let sum = match self.slip {
+            Slip::CentsDoubles => products.iter().map(|&one| one as f64).sum::<f64>() as i128,
+            Slip::CentsSumNarrow => i128::from(exact as i32),
+            Slip::CentsSumsMultiplied => {
+                let gaps: i128 = (0..count).map(|place| self.gap(place)).sum();
+                gaps * self.lists[2].iter().sum::<i128>()
+            }
+            _ => exact,
+        };
+        let cent = match self.slip {
+            Slip::CentsKilo => 1_000,
+            Slip::CentsEuro => 100_000_000,
+            _ => 1_000_000,
+        };
+        let (down, rest) = (sum.div_euclid(cent), sum.rem_euclid(cent));
+        let up = if rest == 0 { down } else { down + 1 };
+        let (toward_zero, left) = (sum / cent, sum % cent);
+        let each = products.iter().map(|one| one.div_euclid(cent)).fold(0, add);
+        let (cents, remainder) = match self.slip {
+            Slip::CentsEach => (each, products.iter().map(|one| one.rem_euclid(cent)).sum()),
+            Slip::CentsEachRounded => (each, rest),
+            Slip::CentsLastRemainder => (each, products.last().map_or(0, |one| one.rem_euclid(cent))),
+            Slip::CentsTowardZero => (toward_zero, rest),
+            Slip::CentsMachine => (toward_zero, left),
+            Slip::CentsMagnitude => (toward_zero, left.abs()),
+            Slip::CentsRemainderSign => (down, left.abs()),
+            Slip::CentsNearest => ((sum + cent / 2).div_euclid(cent), rest),
+            Slip::CentsUp => (up, rest),
+            Slip::CentsAway if sum > 0 => (up, rest),
+            Slip::CentsWholeLower if sum < 0 && rest == 0 => (down - 1, cent),
+            Slip::CentsQuotientDouble => ((sum as f64 / cent as f64).floor() as i128, rest),
+            _ => (down, rest),
+        };
+        (cents as i64, remainder as u64)
+    }
+}
+
+/// The correction with one slip, as the host calls it.
+pub fn correction(
+    slip: Slip,
+    amounts: &[i64],
+    balanced: &[i64],
+    prices: &[i64],
+    cents: &mut i64,
+    remainder: &mut u64,
+) -> Refusal {
+    let lists = Lists::new(slip, [amounts, balanced, prices]);
+    match lists.tested() {
+        Ok(()) => {
+            if slip != Slip::CentsEmptyKept || !amounts.is_empty() {
+                (*cents, *remainder) = lists.split();
+            }
+            0
+        }
+        Err(number) => {
+            match slip {
+                Slip::CentsWritten => *cents = 0,
+                Slip::CentsRemainderWritten => *remainder = 0,
+                Slip::CentsSumWritten if number == 21 => (*cents, *remainder) = lists.split(),
+                _ => {}
+            }
+            number
+        }
+    }
 }
 
 /// The program's lines with one slip, of the program or of settle.

@@ -1,5 +1,5 @@
-//! Document 01's own figures and examples, request 1's dates, request 2's taking back, request 3's readings, `fast` and
-//! the slips against the plain modules, and read-back.
+//! Document 01's own figures and examples, request 1's dates, request 2's taking back, request 3's readings, request
+//! 5's correction, `fast` and the slips against the plain modules, and read-back.
 
 use crate::archive::{link, record, used, FIRST, NEXT, RECORD, SECOND};
 use crate::builder::*;
@@ -10,7 +10,8 @@ use crate::settle::{curve_power, factor};
 use crate::sha256::sha256;
 use crate::slips::{self, Of, Slip, FURTHER, SLIPS};
 use crate::{
-    append, audit, delivery_day, fast, fresh, host_delivery_day, host_settle, program, settle, show, take_back,
+    append, audit, correction, delivery_day, fast, fresh, host_correction, host_delivery_day, host_settle, program,
+    settle, show, take_back,
 };
 use crate::{filing, Answer};
 
@@ -832,6 +833,220 @@ fn sound_stays_sound() {
     assert!(rounds > 3_000, "{rounds}");
 }
 
+/// The correction, the same in all implementations; a refusal leaves the lent cents and remainder.
+fn corrected(amounts: &[i64], balanced: &[i64], prices: &[i64]) -> Result<(i64, u64), u32> {
+    let found = correction(amounts, balanced, prices);
+    let run = |call: &dyn Fn(&mut i64, &mut u64) -> u32| {
+        let (mut cents, mut remainder) = (-77, 1_000_077);
+        (call(&mut cents, &mut remainder), cents, remainder)
+    };
+    let (cents, remainder) = found.unwrap_or((-77, 1_000_077));
+    let right = (found.err().unwrap_or(0), cents, remainder);
+    let (host, quick, slip) = (
+        run(&|cents, remainder| host_correction(amounts, balanced, prices, cents, remainder)),
+        run(&|cents, remainder| fast::correction(amounts, balanced, prices, cents, remainder)),
+        run(&|cents, remainder| slips::correction(Slip::None, amounts, balanced, prices, cents, remainder)),
+    );
+    let lengths = [amounts, balanced, prices].map(<[i64]>::len);
+    assert_eq!((host, quick, slip), (right, right, right), "{lengths:?}");
+    found
+}
+
+/// The most of an amount or balanced energy, and of a price.
+const ENERGY: i64 = 1_000_000_000;
+const PRICE: i64 = 1_000_000;
+
+#[test]
+fn correction_figures() {
+    // The request's own: -1 Wh at 1 cent, as a list of one; 5.3: three of them.
+    assert_eq!(corrected(&[-1], &[0], &[1]), Ok((-1, 999_999)));
+    assert_eq!(corrected(&[0], &[1], &[1]), Ok((-1, 999_999)));
+    assert_eq!(corrected(&[0], &[-1], &[-1]), Ok((-1, 999_999)));
+    assert_eq!(corrected(&[-1; 3], &[0; 3], &[1; 3]), Ok((-1, 999_997)));
+    // 5.1: three empty lists.
+    assert_eq!(corrected(&[], &[], &[]), Ok((0, 0)));
+    // 250 kWh above 100 kWh at 8,512 cents per MWh: 1,276.8 cents; the same below.
+    assert_eq!(corrected(&[250_000], &[100_000], &[8_512]), Ok((1_276, 800_000)));
+    assert_eq!(corrected(&[100_000], &[250_000], &[8_512]), Ok((-1_277, 200_000)));
+    assert_eq!(corrected(&[250_000], &[100_000], &[-8_512]), Ok((-1_277, 200_000)));
+    assert_eq!(corrected(&[100_000], &[250_000], &[-8_512]), Ok((1_276, 800_000)));
+    // Both together take each other off, in either order.
+    assert_eq!(corrected(&[250_000, 100_000], &[100_000, 250_000], &[8_512; 2]), Ok((0, 0)));
+    assert_eq!(corrected(&[250_000; 2], &[100_000; 2], &[-8_512, 8_512]), Ok((0, 0)));
+    // Sums at whole cents and beside them.
+    for (sum, cents, remainder) in [
+        (0, 0, 0),
+        (1, 0, 1),
+        (499_999, 0, 499_999),
+        (500_000, 0, 500_000),
+        (999_999, 0, 999_999),
+        (1_000_000, 1, 0),
+        (1_000_001, 1, 1),
+        (-1, -1, 999_999),
+        (-500_000, -1, 500_000),
+        (-999_999, -1, 1),
+        (-1_000_000, -1, 0),
+        (-1_000_001, -2, 999_999),
+        (-2_000_000, -2, 0),
+    ] {
+        assert_eq!(corrected(&[sum], &[0], &[1]), Ok((cents, remainder)));
+        assert_eq!(corrected(&[0], &[sum], &[-1]), Ok((cents, remainder)));
+        assert_eq!(corrected(&[7, sum + 5], &[7, 5], &[-3, 1]), Ok((cents, remainder)));
+        // In 20 parts: the quarters' own cents don't matter.
+        let mut amounts = [-1_000_003; 20];
+        amounts[11] = sum + 19 * 1_000_003;
+        assert_eq!(corrected(&amounts, &[0; 20], &[1; 20]), Ok((cents, remainder)));
+    }
+}
+
+/// Both ends of every range, one past them, and the ends of 64 bits; at the first, a middle and the last of 20 places.
+#[test]
+fn correction_ranges() {
+    let far = [i64::MIN, i64::MIN + 1, i64::MAX - 1, i64::MAX, 1 << 32, -(1 << 32), (1 << 32) + 5, i64::MIN + 5];
+    for (list, most, number) in [(0, ENERGY, 20), (1, ENERGY, 20), (2, PRICE, 21)] {
+        for count in [1, 20] {
+            for place in [0, count / 2, count - 1] {
+                let with = |value: i64| {
+                    let mut lists = [vec![3; count], vec![5; count], vec![7; count]];
+                    lists[list][place] = value;
+                    corrected(&lists[0], &lists[1], &lists[2])
+                };
+                for value in [-most, 1 - most, -1, 0, 1, most - 1, most] {
+                    let change = match list {
+                        0 => (value - 3) * 7,
+                        1 => (5 - value) * 7,
+                        _ => -2 * (value - 7),
+                    };
+                    let sum = -14 * count as i64 + change;
+                    let split = (sum.div_euclid(1_000_000), sum.rem_euclid(1_000_000) as u64);
+                    assert_eq!(with(value), Ok(split));
+                }
+                for value in [most + 1, -most - 1].iter().chain(&far) {
+                    assert_eq!(with(*value), Err(number), "{list} {value}");
+                }
+            }
+        }
+    }
+    // A gap may be twice as far, and a fine energy is no price.
+    assert_eq!(corrected(&[ENERGY], &[-ENERGY], &[PRICE]), Ok((2_000_000_000, 0)));
+    assert_eq!(corrected(&[-ENERGY], &[ENERGY], &[PRICE]), Ok((-2_000_000_000, 0)));
+    assert_eq!(corrected(&[ENERGY], &[ENERGY], &[ENERGY]), Err(21));
+}
+
+/// 22, 20, 21, each over the whole lists.
+#[test]
+fn correction_order() {
+    let far = ENERGY + 1;
+    // A bad price before, beside and behind a bad amount or balanced energy.
+    for (first, second) in [(0, 8), (4, 4), (8, 0)] {
+        let list = |place: usize, value| {
+            let mut list = [0; 9];
+            list[place] = value;
+            list
+        };
+        let fine = [0; 9];
+        assert_eq!(corrected(&list(second, far), &fine, &list(first, PRICE + 1)), Err(20));
+        assert_eq!(corrected(&fine, &list(second, -far), &list(first, -PRICE - 1)), Err(20));
+        assert_eq!(corrected(&fine, &fine, &list(first, PRICE + 1)), Err(21));
+    }
+    // 2,976 quarters are taken, 2,977 are 20, also with a bad price.
+    let (most, more) = (vec![-1; 2_976], vec![-1; 2_977]);
+    assert_eq!(corrected(&most[1..], &vec![0; 2_975], &vec![1; 2_975]), Ok((-1, 997_025)));
+    assert_eq!(corrected(&most, &vec![0; 2_976], &vec![1; 2_976]), Ok((-1, 997_024)));
+    assert_eq!(corrected(&more, &more, &more), Err(20));
+    assert_eq!(corrected(&more, &more, &vec![i64::MIN; 2_977]), Err(20));
+    assert_eq!(corrected(&vec![0; 5_000], &vec![0; 5_000], &vec![0; 5_000]), Err(20));
+    // Unequal lengths in every pairing, beside nothing, 20 for a number, 20 for the count, and 21.
+    for [amounts, balanced, prices] in
+        [[1, 0, 0], [0, 1, 0], [0, 0, 1], [1, 1, 0], [1, 0, 1], [0, 1, 1], [0, 1, 2], [2, 1, 0], [0, 2, 5]]
+    {
+        for count in [0, 1, 20, 2_976, 2_977] {
+            let lists = |energy: i64, price: i64| {
+                let list = |more: usize, value: i64| vec![value; count + more];
+                corrected(&list(amounts, energy), &list(balanced, 0), &list(prices, price))
+            };
+            for (energy, price) in [(0, 0), (far, 0), (i64::MIN, 0), (0, PRICE + 1), (far, i64::MAX)] {
+                assert_eq!(lists(energy, price), Err(22));
+            }
+        }
+    }
+    assert_eq!(corrected(&[far], &[], &[]), Err(22));
+    assert_eq!(corrected(&[], &[far], &[]), Err(22));
+    assert_eq!(corrected(&[], &[], &[PRICE + 1]), Err(22));
+}
+
+/// The largest sums stay below 2^63, and doubles don't hold those beside them.
+#[test]
+fn correction_largest() {
+    let all = |amount: i64, price: i64| corrected(&vec![amount; 2_976], &vec![-amount; 2_976], &vec![price; 2_976]);
+    let most = 5_952_000_000_000;
+    assert_eq!(all(ENERGY, PRICE), Ok((most, 0)));
+    assert_eq!(all(-ENERGY, -PRICE), Ok((most, 0)));
+    assert_eq!(all(ENERGY, -PRICE), Ok((-most, 0)));
+    assert_eq!(all(-ENERGY, PRICE), Ok((-most, 0)));
+    // One Wh less in one of the quarters: a million parts, which is a cent; one price less: 2,000 cents.
+    let mut amounts = vec![ENERGY; 2_976];
+    amounts[1_500] -= 1;
+    assert_eq!(corrected(&amounts, &vec![-ENERGY; 2_976], &vec![PRICE; 2_976]), Ok((most - 1, 0)));
+    let mut prices = vec![PRICE; 2_976];
+    prices[2_975] -= 1;
+    assert_eq!(corrected(&amounts, &vec![-ENERGY; 2_976], &prices), Ok((most - 2_001, 0)));
+    prices[1_500] -= 1;
+    assert_eq!(corrected(&amounts, &vec![-ENERGY; 2_976], &prices), Ok((most - 4_001, 1)));
+}
+
+/// Numbers on both sides of what `fast` takes for ordinary, in lists of many lengths.
+#[test]
+fn correction_fast() {
+    let (energy, price) = (1 << 29, 1 << 19);
+    let energies = [-energy - 1, -energy, 1 - energy, -1, 0, 1, energy - 1, energy, energy + 1, ENERGY, -ENERGY];
+    let prices = [-price - 1, -price, 1 - price, 0, 1, price - 1, price, price + 1, PRICE, -PRICE];
+    for count in (0..70).chain([95, 96, 97, 2_975, 2_976]) {
+        for &amount in &energies {
+            for &balanced in &energies {
+                for &price in prices.iter().filter(|_| count < 40) {
+                    let sum = i128::from(amount - balanced) * i128::from(price) * count as i128;
+                    let split = (sum.div_euclid(1_000_000) as i64, sum.rem_euclid(1_000_000) as u64);
+                    let (amounts, balanced) = (vec![amount; count], vec![balanced; count]);
+                    assert_eq!(corrected(&amounts, &balanced, &vec![price; count]), Ok(split));
+                }
+            }
+        }
+        // One number that isn't ordinary, or out of range, at each end.
+        for place in [0, count / 2, count.saturating_sub(1)].into_iter().filter(|_| count > 0) {
+            for value in [energy, -energy, energy + 1, ENERGY, ENERGY + 1, i64::MIN, i64::MAX] {
+                for list in 0..3 {
+                    let mut lists = [vec![-9; count], vec![4; count], vec![11; count]];
+                    lists[list][place] = value;
+                    let number = corrected(&lists[0], &lists[1], &lists[2]).err().unwrap_or(0);
+                    let right = match list {
+                        2 => 21,
+                        _ if (-ENERGY..=ENERGY).contains(&value) => 0,
+                        _ => 20,
+                    };
+                    assert_eq!(number, right);
+                }
+            }
+        }
+    }
+}
+
+/// What settle gives goes in as it is; 5.4: beyond 1,000,000,000 it is 20.
+#[test]
+fn settled_and_corrected() {
+    let filed = archive(&[case_a()]);
+    let mut list = [0; 3];
+    assert_eq!(settle(&filed.bytes, 1, 1, &mut list).number, 0);
+    // 224,999 Wh at 10,000 cents per MWh.
+    assert_eq!(corrected(&list, &[0; 3], &[10_000; 3]), Ok((2_249, 990_000)));
+    let most = 1_000_000_000;
+    let quarters = vec![Quarter { weather: 2_000, ..quarter(-most) }];
+    let filed = archive(&[plant(2, 1, most, vec![], vec![measure(2, 2, vec![before(most, 1)], quarters)])]);
+    assert_eq!(settle(&filed.bytes, 1, 1, &mut list).number, 0);
+    assert!(list[0] > ENERGY);
+    assert_eq!(corrected(&list[..1], &[0], &[0]), Err(20));
+}
+
 /// What the program prints; the same in both implementations.
 fn printed(input: &[u8]) -> String {
     let (mut out, mut other) = (Vec::new(), Vec::new());
@@ -958,6 +1173,9 @@ fn agree(seed: u64, index: u64) {
         Call::Fresh { mut archive } => Some(fresh(&mut archive)),
         Call::DeliveryDay { quarter, holidays } => Some(due(quarter, &holidays).err().unwrap_or(0)),
         Call::TakeBack { mut archive } => Some(taken_back(&mut archive)),
+        Call::Correction { amounts, balanced, prices } => {
+            Some(corrected(&amounts, &balanced, &prices).err().unwrap_or(0))
+        }
     };
     if case.expected.is_some() {
         assert_eq!(case.expected, number, "made for this number: {index}");
@@ -971,10 +1189,11 @@ fn fast_agrees() {
     }
 }
 
-/// Every slip shows somewhere in a few thousand calls of its kind, of taking back the further ones too.
+/// Every slip shows somewhere in a few thousand calls of its kind, of taking back and the correction the further ones
+/// too.
 #[test]
 fn slips_show() {
-    let further = FURTHER.iter().filter(|&&(_, of, _, _)| of == Of::TakeBack);
+    let further = FURTHER.iter().filter(|&&(_, of, _, _)| matches!(of, Of::TakeBack | Of::Correction));
     let mut open: Vec<(Slip, Of)> = SLIPS.iter().chain(further).map(|&(slip, of, _, _)| (slip, of)).collect();
     for index in 0..60_000 {
         if index < 4_000 {
@@ -1025,6 +1244,15 @@ fn slips_show() {
                 };
                 let right = run(Slip::None);
                 open.retain(|&(slip, of)| of != Of::TakeBack || run(slip) == right);
+            }
+            Call::Correction { amounts, balanced, prices } => {
+                let run = |slip| {
+                    let (mut cents, mut remainder) = (-77, 1_000_077);
+                    let number = slips::correction(slip, &amounts, &balanced, &prices, &mut cents, &mut remainder);
+                    (number, cents, remainder)
+                };
+                let right = run(Slip::None);
+                open.retain(|&(slip, of)| of != Of::Correction || run(slip) == right);
             }
         }
     }

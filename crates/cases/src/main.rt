@@ -1,5 +1,6 @@
 // Calls made by the outside program (reference/src/bin/cases.rs) and run here. The file `calls` has them one after another; each gives a
-// line with its refusal number, the count, total and links of a settle or the delivery day, and a checksum of the later list or archive.
+// line with its refusal number, the count, total and links of a settle, the delivery day or the remainder and the cents of a correction, and
+// a checksum of the later list or archive.
 ghost use Prim.Native.Nat.{_+_, _≤_, _<_};
 ghost use mathlib.Core.Path.{_≡_};
 ghost use lib.ListN.{length};
@@ -147,11 +148,69 @@ fn delivery_call(quarter: u64, bytes: &[u8]) -> Answer {
     }
 }
 
+// Eight bytes, little-endian.
+fn double_word(r: &[u8], at: usize) -> u64
+    requires { ⌜ at + 8 ≤ length (now r) ⌝ }
+{
+    record::link_at(r, at) + 4294967296 * record::link_at(r, at + 4)
+}
+
+// In two's complement.
+fn signed(n: u64) -> i64 {
+    if n < 9223372036854775808 {
+        return n as i64;
+    }
+    -1 - (18446744073709551615 - n) as i64
+}
+
+// Numbers of eight bytes each, as many as there is room for.
+fn read_numbers(bytes: &[u8], numbers: &mut [i64]) -> usize
+    ensures { λ r. ⌜ r ≤ length (now (numbers .entry)) ⌝ }
+{
+    let mut n = 0;
+    while n < numbers.len() && 8 * n + 8 <= bytes.len() {
+        numbers[n] = signed(double_word(bytes, 8 * n));
+        n += 1;
+    }
+    n
+}
+
+fn at_most(n: u64, most: usize) -> usize
+    ensures { λ r. ⌜ r ≤ most ⌝ }
+{
+    if n <= most as u64 { n as usize } else { most }
+}
+
+// Amounts, balanced energies and prices one after another, so many of the first two. The count is the remainder, the total the cents.
+fn correction_of(numbers: &[i64], first: u64, second: u64) -> Answer {
+    let amounts = at_most(first, numbers.len());
+    let prices = amounts + at_most(second, numbers.len() - amounts);
+    let corrected = correction::correction(
+        &numbers[..amounts],
+        &numbers[amounts..prices],
+        &numbers[prices..],
+    );
+    let money = corrected.money;
+    Answer {
+        number: corrected.number,
+        count: money.remainder,
+        total: money.cents,
+        links: 0,
+        sum: 0,
+    }
+}
+
+fn correction_call(first: u64, second: u64, bytes: &[u8]) -> Answer {
+    let mut numbers = [0i64; 9216];
+    let n = read_numbers(bytes, &mut numbers);
+    correction_of(&numbers[..n], first, second)
+}
+
 // ---- a call in the file
 
-// Which call, and its two numbers: plant and measure place, or the owner's, record's or quarter's number. So many bytes follow for the
-// archive's start, whose further bytes stay as the last call left them; the archive has `size` bytes; `filed` bytes of a new record or of
-// holidays follow; the list has `places` places.
+// Which call, and its two numbers: plant and measure place, the owner's, record's or quarter's number, or how many amounts and balanced
+// energies there are. So many bytes follow for the archive's start, whose further bytes stay as the last call left them; the archive has
+// `size` bytes; `filed` bytes of a new record, of holidays or of the lists of a correction follow; the list has `places` places.
 struct Call {
     name: u64,
     first: u64,
@@ -160,13 +219,6 @@ struct Call {
     size: usize,
     filed: usize,
     places: usize,
-}
-
-// Eight bytes, little-endian.
-fn double_word(r: &[u8], at: usize) -> u64
-    requires { ⌜ at + 8 ≤ length (now r) ⌝ }
-{
-    record::link_at(r, at) + 4294967296 * record::link_at(r, at + 4)
 }
 
 fn call_of(r: &[u8]) -> Call
@@ -201,6 +253,9 @@ fn answer_to(call: Call, archive: &mut [u8], new: &[u8], list: &mut [i64]) -> An
     }
     if call.name == 7 {
         return take_back_call(archive);
+    }
+    if call.name == 8 {
+        return correction_call(call.first, call.second, new);
     }
     fresh_call(archive)
 }
@@ -282,7 +337,7 @@ fn run(fd: i32, archive: &mut [u8], new: &mut [u8], list: &mut [i64]) {
 
 fn main() {
     let mut archive = [0u8; 131072];
-    let mut new = [0u8; 256];
+    let mut new = [0u8; 73728];
     let mut list = [0i64; 4096];
     let fd = os::open_read(b"calls");
     if fd < 0 {

@@ -13,7 +13,7 @@ use Rattle.rules.specs.declared.Direction.{Direction}
 use Rattle.rules.specs.declared.Direction.the-variants.{Positive as positive, Negative as negative}
 use Rattle.rules.specs.Numbers.{orZero}
 use Rattle.rules.specs.Reference.{magnitude}
-use Rattle.rules.proofs.Ints.{mag-times, mag-minus}
+use Rattle.rules.proofs.Ints.{not-below, mag-times, mag-minus}
 use Rattle.units.proofs.Laws.{held, back, IsUnsigned, natural-cast, natural-is}
 use Rattle.reference.proofs.Products.{times-fits, times-is}
 use Rattle.exact.specs.Exacts.{Room}
@@ -23,10 +23,6 @@ use Rattle.exact.specs.Exacts.{Room}
 below : (n : ℤ) → ltZ n (pos 0) ≡ true → 0 ≡ orZero n
 below (pos n) e = absurd (omega (arith, ltb-true n 0 e))
 below (negsuc n) e = refl
-
-not-below : (n : ℤ) → ltZ n (pos 0) ≡ false → n ≡ pos (orZero n)
-not-below (pos n) e = refl
-not-below (negsuc n) e = let w : _≡_ {A = ℕ} 0 1 = cc in absurd (omega arith)
 
 -- by the code's test
 module _ (n : ℤ) (h : mag n < 2 ^ 63) where

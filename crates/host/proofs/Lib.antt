@@ -3,3 +3,4 @@ pub mod Shown
 pub mod Settling
 pub mod Results
 pub mod Delivering
+pub mod Correcting

@@ -4,7 +4,7 @@ ghost use Prim.Native.Nat.{_/_, _≤_, min};
 ghost use lib.ListN.{length};
 ghost use mathlib.Core.List.{_++_};
 ghost use Rattle.rules.specs.Encoding.{doubleWord};
-ghost use Rattle.rules.specs.Promises.{HostSettles, Freshens, Appends, TakesBack, Audits, Delivers};
+ghost use Rattle.rules.specs.Promises.{HostSettles, Freshens, Appends, TakesBack, Audits, Delivers, HostCorrects};
 ghost use Rattle.host.specs.Shown.{shownPlace};
 use calendar::Delivery;
 use prepare::Prepared;
@@ -145,4 +145,27 @@ pub extern "C" fn sandegmur_delivery_day(quarter: u64, holidays: &[u32], day: &m
             0
         }
     }
+}
+
+// The financial correction of three lists (document 02, 5) into two lent numbers.
+#[no_mangle]
+pub extern "C" fn sandegmur_correction(
+    amounts: &[i64],
+    balanced: &[i64],
+    prices: &[i64],
+    cents: &mut i64,
+    remainder: &mut u64,
+) -> u32
+    ensures { λ r. ⌜ HostCorrects (now (amounts .entry)) (now (balanced .entry)) (now (prices .entry))
+        (now (cents .entry)) (now (cents .exit)) (now (remainder .entry)) (now (remainder .exit)) r ⌝ }
+{
+    let corrected = correction::correction(amounts, balanced, prices);
+    if corrected.number != 0 {
+        return corrected.number as u32;
+    }
+    let money = corrected.money;
+    let whole = money.cents;
+    *cents = whole;
+    *remainder = money.remainder;
+    0
 }

@@ -7,7 +7,7 @@ use native.Mathlib.Nat.{zero-mul, mul-le-mul, mul-le-mul-right, le-of-lt}
 use native.Mathlib.Omega.{arith}
 use lib.Dec.{T, ltb, ltb→lt, nltb→le, leb→le, nleb→lt, le→leb}
 use lib.IntN.{ℤ, pos, negsuc, negℤ, natAbs, subℕ, _+ℤ_, _-ℤ_, _*ℤ_}
-use lib.Signed.{leZ, _≤ℤ_, leZ-yes, mag}
+use lib.Signed.{leZ, ltZ, _≤ℤ_, leZ-yes, mag}
 use Rattle.rules.specs.Numbers.{orZero, smaller, larger}
 use Rattle.rules.specs.Archive.{twos}
 
@@ -101,6 +101,11 @@ add-parts a b = omega (arith, orZero-add a b, under-add a b)
 pub natAbs-parts : (a : ℤ) → natAbs a ≡ orZero a + under a
 natAbs-parts (pos n) = omega arith
 natAbs-parts (negsuc n) = omega arith
+
+-- a number that isn't below zero, by the test
+pub not-below : (a : ℤ) → ltZ a (pos 0) ≡ false → a ≡ pos (orZero a)
+not-below (pos n) e = refl
+not-below (negsuc n) e = let w : _≡_ {A = ℕ} 0 1 = cc in absurd (omega arith)
 
 -- ---- orders
 

@@ -16,6 +16,7 @@ pub mod Unlinked
 pub mod Read
 pub mod ReadBack
 pub mod TakeBack
+pub mod Correction
 pub mod Positive
 pub mod October
 pub mod Monotone
@@ -35,6 +36,7 @@ pub mod Figures
 pub mod DateFigures
 pub mod OctoberFigures
 pub mod TakeBackFigures
+pub mod CorrectionFigures
 pub mod RaisedExample
 pub mod Walks
 pub mod Folds

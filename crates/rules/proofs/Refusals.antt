@@ -5,9 +5,10 @@ use mathlib.Core.List.{List, [], _∷_}
 use Prim.Native.Nat.{ℕ, zero, suc, _-_}
 use borrow.Author.Tests.{eqb-true}
 use lib.Dec.{eqb}
+use lib.IntN.{ℤ}
 use lib.ListN.{length}
 use Rattle.rules.specs.Outcome.{Outcome, refused, given, _>>=_, _>>_, require, numberOf, after}
-use Rattle.rules.specs.Refusals.{notArchive, badLink, wrongKind, settleRefusals, appendRefusals, auditRefusals, takeBackRefusals, deliveryDayRefusals}
+use Rattle.rules.specs.Refusals.{notArchive, badLink, wrongKind, settleRefusals, appendRefusals, auditRefusals, takeBackRefusals, deliveryDayRefusals, correctionRefusals}
 use Rattle.rules.specs.Numbers.{member}
 use Rattle.rules.specs.Calendar.{deliveryDay}
 use Rattle.rules.specs.Archive.{linkAt, usedOf, nextOf, Entry, follow, atPlace, chainFrom, chain}
@@ -18,6 +19,7 @@ use Rattle.rules.specs.Links.{Link, ownedAt, linksAt, standsAt, namers}
 use Rattle.rules.specs.Filing.{fresh, offsetIn, offsetFor, append}
 use Rattle.rules.specs.Audit.{linkChecked, linksChecked, recordChecked, recordsChecked, audit}
 use Rattle.rules.specs.TakeBack.{onlyPlace, takeBack}
+use Rattle.rules.specs.Correction.{correctionOver, correction}
 use Rattle.rules.specs.Demands.{RefusedWithin, EveryCallAnswers, RefusalsChangeNothing}
 
 -- ---- along the parts of a definition
@@ -222,6 +224,10 @@ delivers-within : (quarter : ℕ) (holidays : List ℕ) → RefusedWithin delive
 unfolding deliveryDay
 delivers-within quarter holidays = within-test _ 18 _ refl (within-given _)
 
+corrects-within : (amounts balanced prices : List ℤ) → RefusedWithin correctionRefusals (correction amounts balanced prices)
+unfolding correction correctionOver
+corrects-within amounts balanced prices = within-test _ 22 _ refl (within-test _ 20 _ refl (within-test _ 21 _ refl (within-given _)))
+
 pub every-call-answers : EveryCallAnswers
 unfolding fresh
 every-call-answers = record {
@@ -232,6 +238,7 @@ every-call-answers = record {
   audits = audit-within;
   takes-back = take-back-within;
   delivers = delivers-within;
+  corrects = corrects-within;
 }
 
 -- ---- a refused call changes nothing
@@ -261,4 +268,7 @@ refusals-change-nothing = record {
   appends = λ archive owner new later number h f. h .leaves ∙ kept (append archive owner new) _ archive number (h .answers) f;
   takes-back = λ archive later number h f. h .leaves ∙ kept (takeBack archive) _ archive number (h .answers) f;
   delivers = λ quarter holidays was day number h f. h .leaves ∙ kept (deliveryDay quarter holidays) _ was number (h .answers) f;
+  corrects = λ amounts balanced prices was cents rest remainder number h f.
+      let o = correction amounts balanced prices in
+      (h .leaves-cents ∙ kept o _ was number (h .answers) f, h .leaves-remainder ∙ kept o _ rest number (h .answers) f);
 }

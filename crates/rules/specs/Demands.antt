@@ -2,12 +2,12 @@
 use Prim.Native.Nat.{ℕ, _+_, _-_, _/_, _^_, _≤_, _<_}
 use mathlib.Core.Path.{_≡_}
 use mathlib.Core.Bool.{true, false}
-use mathlib.Core.List.{List}
-use lib.IntN.{ℤ}
-use lib.Signed.{_≤ℤ_}
-use lib.ListN.{length, take, replicate}
+use mathlib.Core.List.{List, [], _∷_, map}
+use lib.IntN.{ℤ, pos}
+use lib.Signed.{_≤ℤ_, _<ℤ_}
+use lib.ListN.{length, getD, take, replicate}
 use Rattle.rules.specs.Outcome.{Outcome, refused, given}
-use Rattle.rules.specs.Refusals.{settleRefusals, freshRefusals, appendRefusals, auditRefusals, takeBackRefusals, deliveryDayRefusals}
+use Rattle.rules.specs.Refusals.{settleRefusals, freshRefusals, appendRefusals, auditRefusals, takeBackRefusals, deliveryDayRefusals, correctionRefusals}
 use Rattle.rules.specs.Numbers.{sumℤ, member, keep}
 use Rattle.rules.specs.Calendar.{Date, monthLength, dated, dateOf, dayNumber, nextFirst, dayAfter, saturday, following, weekdayOf, isMondayToFriday, dayOf}
 use Rattle.rules.specs.Calendar.{isWorkingDay, daysFrom, workingDays, nextMonth, deliveryDay}
@@ -18,7 +18,8 @@ use Rattle.rules.specs.Host.{hostSettle}
 use Rattle.rules.specs.Filing.{fresh, newAllowed, offsetFor, append}
 use Rattle.rules.specs.Audit.{audit, Sound}
 use Rattle.rules.specs.TakeBack.{takeBack, takeBackTimes}
-use Rattle.rules.specs.Promises.{Settles, HostSettles, Freshens, Appends, TakesBack, Delivers}
+use Rattle.rules.specs.Correction.{Gap, gapsOf, Money, costOf, total, moneyOf, exactOf, correction}
+use Rattle.rules.specs.Promises.{Settles, HostSettles, Freshens, Appends, TakesBack, Delivers, HostCorrects}
 use Rattle.rules.specs.ReadBack.{Filing, fileAll, Filed}
 
 -- ---- demand 1: an answer or the one refusal; a refused call changes nothing
@@ -35,6 +36,7 @@ pub record EveryCallAnswers : Type 0 where
   pub audits : (archive : List ℕ) → RefusedWithin auditRefusals (audit archive)
   pub takes-back : (archive : List ℕ) → RefusedWithin takeBackRefusals (takeBack archive)
   pub delivers : (quarter : ℕ) (holidays : List ℕ) → RefusedWithin deliveryDayRefusals (deliveryDay quarter holidays)
+  pub corrects : (amounts balanced prices : List ℤ) → RefusedWithin correctionRefusals (correction amounts balanced prices)
 
 -- show and audit are lent the archive for reading alone, settle too
 pub record RefusalsChangeNothing : Type 0 where
@@ -47,6 +49,8 @@ pub record RefusalsChangeNothing : Type 0 where
       → (number ≡ 0 → ⊥) → later ≡ archive
   pub takes-back : (archive later : List ℕ) (number : ℕ) → TakesBack archive later number → (number ≡ 0 → ⊥) → later ≡ archive
   pub delivers : (quarter : ℕ) (holidays : List ℕ) (was day number : ℕ) → Delivers quarter holidays was day number → (number ≡ 0 → ⊥) → day ≡ was
+  pub corrects : (amounts balanced prices : List ℤ) (was cents : ℤ) (rest remainder number : ℕ)
+      → HostCorrects amounts balanced prices was cents rest remainder number → (number ≡ 0 → ⊥) → (cents ≡ was) × (remainder ≡ rest)
 
 -- ---- demand 2: what is filed is read again
 
@@ -143,3 +147,38 @@ abbrev pub TakesFilingsBack : Type 0
 TakesFilingsBack =
     (archive start end : List ℕ) (filings : List Filing) (times : ℕ) → fresh archive ≡ given start → fileAll filings start ≡ given end
     → times ≤ length filings → takeBackTimes times end ≡ fileAll (take (length filings - times) filings) start
+
+-- ---- the financial correction (02, 5)
+
+-- 1,000,000 × cents + remainder is the exact sum of the products, and the remainder is from 0 to 999,999
+pub record CorrectsExactly (amounts balanced prices : List ℤ) (money : Money) : Type 0 where
+  pub exact : exactOf money ≡ total (map costOf (gapsOf amounts balanced prices))
+  pub below : money .remainder < 1000000
+
+abbrev pub CorrectionsExact : Type 0
+CorrectionsExact =
+    (amounts balanced prices : List ℤ) (money : Money) → correction amounts balanced prices ≡ given money → CorrectsExactly amounts balanced prices money
+
+-- a quarter by itself: a list of one
+abbrev pub alone : Gap → Outcome Money
+alone g = correction (g .amount ∷ []) (g .balanced ∷ []) (g .price .0 ∷ [])
+
+-- no quarter of lists that aren't refused is refused by itself, and the exact results of the single quarters add up to that of the lists,
+-- which is their sum split once
+abbrev pub QuartersAddUp : Type 0
+QuartersAddUp =
+    (amounts balanced prices : List ℤ) (money : Money) → correction amounts balanced prices ≡ given money
+    → (moneys : List Money) × (map alone (gapsOf amounts balanced prices) ≡ map given moneys)
+    × (exactOf money ≡ total (map exactOf moneys)) × (money ≡ moneyOf (total (map exactOf moneys)))
+
+-- the second prices are the first, some raised, and none of them where the amount is below the balanced energy
+pub record PricesRaised (amounts balanced first second : List ℤ) : Type 0 where
+  pub no-lower : (i : ℕ) → getD first i (pos 0) ≤ℤ getD second i (pos 0)
+  pub equal-below : (i : ℕ) → getD amounts i (pos 0) <ℤ getD balanced i (pos 0) → getD first i (pos 0) ≡ getD second i (pos 0)
+
+-- with prices so raised, neither refused, the second result is no lower: in whole cents, and exactly
+abbrev pub CorrectionsRise : Type 0
+CorrectionsRise =
+    (amounts balanced first second : List ℤ) (money₁ money₂ : Money) → correction amounts balanced first ≡ given money₁
+    → correction amounts balanced second ≡ given money₂ → PricesRaised amounts balanced first second
+    → (money₁ .cents ≤ℤ money₂ .cents) × (exactOf money₁ .0 ≤ℤ exactOf money₂ .0)

@@ -16,6 +16,7 @@ pub mod Filing
 pub mod Audit
 pub mod ReadBack
 pub mod TakeBack
+pub mod Correction
 pub mod Output
 pub mod Promises
 pub mod Demands
@@ -23,3 +24,4 @@ pub mod Figures
 pub mod DateFigures
 pub mod OctoberFigures
 pub mod TakeBackFigures
+pub mod CorrectionFigures

@@ -16,6 +16,7 @@ use Rattle.rules.specs.Host.{hostSettle, hostListAfter, hostResultAfter}
 use Rattle.rules.specs.Filing.{fresh, append, archiveAfter, isShown, shown}
 use Rattle.rules.specs.Audit.{audit}
 use Rattle.rules.specs.TakeBack.{takeBack}
+use Rattle.rules.specs.Correction.{correction, Corrected, correctedOf}
 
 -- demand 3 of one call that isn't refused: the list that it leaves and the total that it gives keep to the exact fractions
 pub record KeepsToFractions (archive : List ℕ) (p k : ℕ) (later : List ℤ) (answer : Answer) : Type 0 where
@@ -61,3 +62,13 @@ pub record Audits (archive : List ℕ) (number : ℕ) : Type 0 where
 pub record Delivers (quarter : ℕ) (holidays : List ℕ) (was day number : ℕ) : Type 0 where
   pub answers : number ≡ numberOf (deliveryDay quarter holidays)
   pub leaves : day ≡ after (deliveryDay quarter holidays) (λ d. d) was
+
+-- the financial correction of three lists
+pub record Corrects (amounts balanced prices : List ℤ) (answer : Corrected) : Type 0 where
+  pub answers : answer ≡ correctedOf (correction amounts balanced prices)
+
+-- the same for the operator's host: cents and remainder put where `was` and `rest` stood
+pub record HostCorrects (amounts balanced prices : List ℤ) (was cents : ℤ) (rest remainder number : ℕ) : Type 0 where
+  pub answers : number ≡ numberOf (correction amounts balanced prices)
+  pub leaves-cents : cents ≡ after (correction amounts balanced prices) (λ m. m .cents) was
+  pub leaves-remainder : remainder ≡ after (correction amounts balanced prices) (λ m. m .remainder) rest

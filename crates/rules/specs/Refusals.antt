@@ -78,6 +78,18 @@ notInCalendar = 18
 abbrev pub lastNotNamedOnce : ℕ
 lastNotNamedOnce = 19
 
+-- correction: an amount or a balanced energy beyond 1,000,000,000 Wh either way, or more than 2,976 quarters (02, 5)
+abbrev pub badEnergies : ℕ
+badEnergies = 20
+
+-- correction: a price beyond 1,000,000 cents per MWh either way (02, 5)
+abbrev pub badPrice : ℕ
+badPrice = 21
+
+-- correction: lists of unequal length (02, 5)
+abbrev pub unequalLists : ℕ
+unequalLists = 22
+
 -- ---- the numbers that each call can return beside 0
 
 abbrev pub settleRefusals : List ℕ
@@ -99,3 +111,6 @@ deliveryDayRefusals = notInCalendar ∷ []
 
 abbrev pub takeBackRefusals : List ℕ
 takeBackRefusals = notArchive ∷ lastNotNamedOnce ∷ []
+
+abbrev pub correctionRefusals : List ℕ
+correctionRefusals = unequalLists ∷ badEnergies ∷ badPrice ∷ []

@@ -53,3 +53,21 @@ pub struct Date {
     pub month: u64,
     pub day: u64,
 }
+
+// A price of energy in cents per MWh (document 02, 5).
+pub struct Price(pub i64);
+
+// Money in millionths of a cent, the cost of 1 Wh at 1 cent per MWh.
+pub struct MillionthCent(pub i64);
+
+// Money in whole cents, and what is left beside them in millionths of a cent.
+pub struct Money {
+    pub cents: i64,
+    pub remainder: u64,
+}
+
+// What a correction gives: the number of its refusal or 0, and the money, which is zero where it is refused.
+pub struct Corrected {
+    pub number: u64,
+    pub money: Money,
+}

@@ -37,3 +37,9 @@ pub const NOT_NAMED_ONCE: u64 = 17;
 pub const NOT_IN_CALENDAR: u64 = 18;
 
 pub const LAST_NOT_NAMED_ONCE: u64 = 19;
+
+pub const BAD_ENERGIES: u64 = 20;
+
+pub const BAD_PRICE: u64 = 21;
+
+pub const UNEQUAL_LISTS: u64 = 22;

@@ -11,7 +11,10 @@
 //! 3 fresh: number, hash of the archive; 4 append (a = owner): number, hash of the archive; 5 audit: number;
 //! 6 the program, its input as archive: hash and length of what it writes;
 //! 7 delivery day (a = quarter; the holidays, 4 bytes each, as list; the lent day, 8 bytes, as result part): number,
-//! the day afterwards; 8 take back: number, hash of the archive. Each line starts with the call.
+//! the day afterwards; 8 take back: number, hash of the archive;
+//! 9 correction (the amounts as list, the balanced energies as archive, the prices as record, 8 bytes each; the lent
+//! cents and remainder, 8 bytes each, as result part): number, cents and remainder afterwards.
+//! Each line starts with the call.
 
 #[path = "shared/host.rs"]
 mod host;
@@ -40,10 +43,11 @@ const AUDIT: u8 = 5;
 const PROGRAM: u8 = 6;
 const DELIVERY_DAY: u8 = 7;
 const TAKE_BACK: u8 = 8;
+const CORRECTION: u8 = 9;
 
 /// Each call's numbers; show has 0 for a record and 1 for the empty part, delivery day also 1 for day 0, the program 0
 /// for an M line.
-const NUMBERS: [(u8, &str, &[u32]); 8] = [
+const NUMBERS: [(u8, &str, &[u32]); 9] = [
     (SETTLE, "settle", &[0, 1, 2, 3, 4, 5, 6, 7, 8, 9, 10, 11, 12, 13, 18]),
     (SHOW, "show (0 a record, 1 the empty part)", &[0, 1]),
     (FRESH, "fresh", &[0, 1]),
@@ -52,6 +56,7 @@ const NUMBERS: [(u8, &str, &[u32]); 8] = [
     (PROGRAM, "program (by line, 0 for M)", &[0, 1, 2, 3, 6, 7, 8, 9, 10, 11, 12, 18]),
     (DELIVERY_DAY, "delivery day (1 for day 0)", &[0, 1, 18]),
     (TAKE_BACK, "take back", &[0, 1, 19]),
+    (CORRECTION, "correction", &[0, 20, 21, 22]),
 ];
 
 #[derive(Clone, Debug, Default)]
@@ -66,7 +71,7 @@ struct Case {
 }
 
 impl Case {
-    /// The lent day is the quarter with every bit turned.
+    /// The lent day is the quarter with every bit turned; lent cents and remainder are hashes of amounts and prices.
     fn of(call: Call) -> Case {
         let none = Case::default();
         match call {
@@ -81,6 +86,12 @@ impl Case {
             Call::DeliveryDay { quarter, holidays } => {
                 let list = holidays.iter().flat_map(|day| day.to_le_bytes()).collect();
                 Case { call: DELIVERY_DAY, a: quarter, list, result: (!quarter).to_le_bytes().to_vec(), ..none }
+            }
+            Call::Correction { amounts, balanced, prices } => {
+                let bytes = |list: Vec<i64>| list.iter().flat_map(|number| number.to_le_bytes()).collect::<Vec<u8>>();
+                let (list, archive, record) = (bytes(amounts), bytes(balanced), bytes(prices));
+                let result = [hash(&list), !hash(&record)].map(u64::to_le_bytes).concat();
+                Case { call: CORRECTION, list, result, archive, record, ..none }
             }
         }
     }
@@ -135,6 +146,14 @@ impl Case {
                 let number = host::delivery_day(*a, &holidays, &mut day);
                 let reached = if number == 0 && day == 0 { 1 } else { number };
                 (format!("{call} {number} {day}"), vec![reached])
+            }
+            CORRECTION => {
+                let number_of = |bytes: &[u8]| i64::from_le_bytes(bytes.try_into().expect("8 bytes"));
+                let [amounts, balanced, prices] =
+                    [list, archive, record].map(|bytes| bytes.chunks(8).map(number_of).collect::<Vec<i64>>());
+                let (mut cents, mut remainder) = (number_of(&result[..8]), number_of(&result[8..]) as u64);
+                let number = host::correction(&amounts, &balanced, &prices, &mut cents, &mut remainder);
+                (format!("{call} {number} {cents} {remainder}"), vec![number])
             }
             _ => {
                 let input = folder.join("input");
@@ -232,7 +251,7 @@ fn each(seed: u64, archives: usize, mut take: impl FnMut(u64, Case) -> io::Resul
     let mut index = 0;
     while made.archives.len() < archives {
         let case = Case::of(generate::call(seed, index).call);
-        let others = if case.call == DELIVERY_DAY {
+        let others = if matches!(case.call, DELIVERY_DAY | CORRECTION) {
             made.without += 1;
             vec![]
         } else if !made.archives.insert(hash(&case.archive)) {
@@ -261,7 +280,7 @@ fn ask(seed: u64, archives: usize, folder: &Path, program: &Path) -> io::Result<
     fs::create_dir_all(folder)?;
     let mut cases = BufWriter::new(File::create(folder.join("cases"))?);
     let mut lines = BufWriter::new(File::create(folder.join("lines"))?);
-    let mut calls = [0u64; 9];
+    let mut calls = [0u64; 10];
     let mut numbers: BTreeMap<(u8, u32), u64> = BTreeMap::new();
     let mut october = [[0u64; 4]; 3];
     let mut length = 0;

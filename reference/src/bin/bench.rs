@@ -184,6 +184,30 @@ fn delivery_day(repetitions: usize, versions: &[Version], holidays: &[u32]) -> V
     medians(repetitions, versions[0].places.len(), &mut sides)
 }
 
+/// Times the correction of so many quarters; all sides must give the same.
+fn correction(repetitions: usize, versions: &[Version], [amounts, balanced, prices]: &[Vec<i64>; 3]) -> Vec<f64> {
+    let (mut cents, mut rest) = (0, 0);
+    assert_eq!(fast::correction(amounts, balanced, prices, &mut cents, &mut rest), 0);
+    let mut sides: Vec<Side> = Vec::new();
+    for version in versions {
+        let (mut own_cents, mut own_rest) = (0, 0);
+        for place in &version.places {
+            assert_eq!(place.correction(amounts, balanced, prices, &mut own_cents, &mut own_rest), 0);
+            assert_eq!((own_cents, own_rest), (cents, rest), "library and fast differ");
+        }
+        sides.push(Box::new(move |at| {
+            let place = &version.places[at];
+            let (amounts, balanced, prices) = (black_box(amounts), black_box(balanced), black_box(prices));
+            black_box(place.correction(amounts, balanced, prices, black_box(&mut own_cents), black_box(&mut own_rest)));
+        }));
+    }
+    sides.push(Box::new(move |_| {
+        let (amounts, balanced, prices) = (black_box(amounts), black_box(balanced), black_box(prices));
+        black_box(fast::correction(amounts, balanced, prices, black_box(&mut cents), black_box(&mut rest)));
+    }));
+    medians(repetitions, versions[0].places.len(), &mut sides)
+}
+
 /// Times append behind a chain of quarters; the record is taken off again each time, which is in all figures.
 fn append(repetitions: usize, versions: &[Version], length: usize, rng: &mut Rng) -> Vec<f64> {
     let (before, owner, undo) = with_room(length, rng);
@@ -429,6 +453,16 @@ fn main() {
         for length in [0, 12, 1_000] {
             let holidays: Vec<u32> = (9_802..).step_by(2).take(length).collect();
             row(&format!("{length} holidays"), &delivery_day(repetitions, &versions, &holidays), 1.0);
+        }
+    }
+
+    if versions.iter().all(Version::corrects) {
+        header("Correction", "ns per call", &versions);
+        // Numbers of their own, so that the later inputs are the same in every version.
+        let lists = priced(2_976, &mut Rng::new(7, 11));
+        for (count, name) in [(2_976, "2,976 quarters"), (96, "96 quarters"), (4, "4 quarters")] {
+            let lists = [0, 1, 2].map(|at| lists[at][..count].to_vec());
+            row(name, &correction(repetitions, &versions, &lists), 1.0);
         }
     }
 

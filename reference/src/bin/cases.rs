@@ -8,7 +8,9 @@
 //!
 //! Its line has the refusal number, count, total, links and a checksum: settle's of the later list, append's, fresh's
 //! and taking back's of the later archive, show's of its part, whose length is the count. Delivery day has the quarter
-//! as its first number, the holidays in place of the record, 4 bytes each, and the day as its count.
+//! as its first number, the holidays in place of the record, 4 bytes each, and the day as its count. The correction has
+//! the counts of amounts and of balanced energies as its numbers, the three lists one after another in place of the
+//! record, 8 bytes to a number, the remainder as its count and the cents as its total.
 
 use reference::archive::{used, DATE, NONAVAILABLE, RECORD};
 use reference::builder::*;
@@ -27,6 +29,7 @@ use std::{env, fs, io};
 const ARCHIVE: usize = 131_072;
 const PLACES: usize = 4_096;
 const HOLIDAYS: usize = 64;
+const PRICED: usize = 9_216;
 
 const SEED: u64 = 5;
 /// Generated calls looked at.
@@ -60,6 +63,7 @@ enum Step<'a> {
     Fresh,
     DeliveryDay { quarter: u64, holidays: &'a [u32] },
     TakeBack,
+    Correction { amounts: &'a [i64], balanced: &'a [i64], prices: &'a [i64] },
 }
 
 use Step::*;
@@ -131,6 +135,16 @@ fn reaches(archive: &[u8], list: &[i64], step: Step) -> Vec<String> {
             number("take back", right.0);
             told(Of::TakeBack, |slip| take_back(slip) != right)
         }
+        Correction { amounts, balanced, prices } => {
+            let correction = |slip| {
+                let (mut cents, mut remainder) = (0, 0);
+                let number = slips::correction(slip, amounts, balanced, prices, &mut cents, &mut remainder);
+                (number, cents, remainder)
+            };
+            let right = correction(Slip::None);
+            number("correction", right.0);
+            told(Of::Correction, |slip| correction(slip) != right)
+        }
     };
     reached.extend(told.iter().map(|slip| format!("{slip:?}")));
     reached
@@ -164,6 +178,7 @@ fn elsewhere(slip: Slip, of: Of) -> bool {
     use Slip::*;
     of == Of::Program
         || matches!(slip, ResultFirst | ResultLonger | ZeroedResult | RaggedPlace | ListWritten | DueWritten)
+        || matches!(slip, CentsWritten | CentsRemainderWritten | CentsEmptyKept)
 }
 
 /// Everything that has to be reached, and how often a generated call is taken for it.
@@ -184,8 +199,9 @@ fn wanted() -> Vec<(String, u64)> {
             wanted.push((format!("{slip:?}"), 2));
         }
     }
-    // Of the further ones those of taking back.
-    let further = FURTHER.iter().filter(|&&(_, of, _, _)| of == Of::TakeBack);
+    // Of the further ones those of taking back and of the correction.
+    let further = FURTHER.iter().filter(|&&(_, of, _, _)| matches!(of, Of::TakeBack | Of::Correction));
+    let further = further.filter(|&&(slip, of, _, _)| !elsewhere(slip, of));
     wanted.extend(further.map(|(slip, _, _, _)| (format!("{slip:?}"), 1)));
     wanted
 }
@@ -217,6 +233,12 @@ impl Cases {
                 (6, quarter, 0, holidays.iter().flat_map(|day| day.to_le_bytes()).collect(), 0)
             }
             TakeBack => (7, 0, 0, none, 0),
+            Correction { amounts, balanced, prices } => {
+                let numbers = [amounts, balanced, prices].concat();
+                assert!(numbers.len() <= PRICED);
+                let record = numbers.iter().flat_map(|number| number.to_le_bytes()).collect();
+                (8, amounts.len() as u64, balanced.len() as u64, record, 0)
+            }
         };
         self.calls.extend(name.to_le_bytes());
         self.calls.extend(first.to_le_bytes());
@@ -252,6 +274,11 @@ impl Cases {
                 let number = reference::take_back(archive);
                 (Answer::refused(number), sum_of_bytes(archive))
             }
+            Correction { amounts, balanced, prices } => {
+                let (mut cents, mut remainder) = (0, 0);
+                let number = reference::host_correction(amounts, balanced, prices, &mut cents, &mut remainder);
+                (Answer { count: remainder, total: cents, ..Answer::refused(number) }, 0)
+            }
         };
         let Answer { number, count, total, links } = answer;
         writeln!(self.lines, "{number} {count} {total} {links} {sum}").expect("a string takes every line");
@@ -269,8 +296,13 @@ impl Cases {
                 Call::Fresh { archive } => (archive, Fresh),
                 Call::DeliveryDay { quarter, holidays } => (&[], DeliveryDay { quarter: *quarter, holidays }),
                 Call::TakeBack { archive } => (archive, TakeBack),
+                Call::Correction { amounts, balanced, prices } => (&[], Correction { amounts, balanced, prices }),
             };
-            if archive.len() > most {
+            let length = match step {
+                Correction { amounts, balanced, prices } => 8 * (amounts.len() + balanced.len() + prices.len()),
+                _ => archive.len(),
+            };
+            if length > most {
                 continue;
             }
             let reached = reaches(archive, &self.list, step);
@@ -388,6 +420,32 @@ impl Cases {
         self.run(&[], size, TakeBack);
         self.run(&[], size, Audit);
     }
+
+    /// A correction, which needs no archive.
+    fn correct(&mut self, amounts: &[i64], balanced: &[i64], prices: &[i64]) {
+        self.run(&[], 0, Correction { amounts, balanced, prices });
+    }
+
+    /// Request 5's own figures, a day's correction, and corrections of 2,976 and 2,977 quarters.
+    fn corrected(&mut self, rng: &mut Rng) {
+        self.correct(&[-1], &[0], &[1]);
+        self.correct(&[-1; 3], &[0; 3], &[1; 3]);
+        self.correct(&[], &[], &[]);
+        let mut any = |count, least, most| (0..count).map(|_| rng.range(least, most)).collect::<Vec<i64>>();
+        self.correct(&any(96, 0, 500_000), &any(96, 0, 500_000), &any(96, -5_000, 30_000));
+        // The largest sum but for a Wh and a cent in the last quarter, then a sum not far above the least.
+        let (mut amounts, balanced, mut prices) =
+            (vec![1_000_000_000; 2_977], vec![-1_000_000_000; 2_977], vec![1_000_000; 2_977]);
+        (amounts[2_975], prices[2_975]) = (999_999_999, 999_999);
+        self.correct(&amounts[..2_976], &balanced[..2_976], &prices[..2_976]);
+        let low = any(2_976, -1_000_000_000, -990_000_000);
+        self.correct(&low, &any(2_976, 990_000_000, 1_000_000_000), &any(2_976, 990_000, 1_000_000));
+        // Too many quarters: alone, beside a bad price, and in one list alone.
+        self.correct(&amounts, &balanced, &prices);
+        prices[0] = 1_000_001;
+        self.correct(&amounts, &balanced, &prices);
+        self.correct(&amounts, &[], &prices[..1]);
+    }
 }
 
 /// Technology and variant.
@@ -454,6 +512,7 @@ fn main() -> io::Result<ExitCode> {
         cases.filed(pairing, direction, rng);
     }
     cases.long(rng);
+    cases.corrected(rng);
     // What no small archive reaches.
     cases.generated(&wanted, LARGE, 0);
 

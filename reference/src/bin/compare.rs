@@ -8,6 +8,7 @@ mod host;
 use reference::generate::{self, Call};
 use std::env;
 use std::fmt::Write;
+use std::ops::Range;
 use std::process::ExitCode;
 
 /// Bytes lent to the library: at any alignment, with bytes around them that must stay.
@@ -19,7 +20,7 @@ struct Lent {
 
 const AROUND: usize = 64;
 const STAY: u8 = 0xa5;
-/// What a lent day and its neighbours hold before the call.
+/// What a lent day, lent cents or a remainder and their neighbours hold before the call.
 const KEPT: u64 = u64::MAX / 3;
 
 impl Lent {
@@ -46,6 +47,14 @@ impl Lent {
             Some(at) => Err(format!("{name} differs at byte {at}: reference {}, library {}", expected[at], found[at])),
         }
     }
+}
+
+/// Numbers between others, and where they stand.
+fn between(list: &[i64], turn: u64) -> (Vec<i64>, Range<usize>) {
+    let start = AROUND + (turn % 2) as usize;
+    let mut all = vec![KEPT as i64; start + list.len() + AROUND];
+    all[start..start + list.len()].copy_from_slice(list);
+    (all, start..start + list.len())
 }
 
 fn number(reference: u32, library: u32) -> Result<(), String> {
@@ -146,6 +155,28 @@ fn compare(call: &Call, index: u64) -> Result<(), String> {
             }
             Ok(())
         }
+        Call::Correction { amounts, balanced, prices } => {
+            let (mut cents_after, mut remainder_after) = ([KEPT as i64; 3], [KEPT; 3]);
+            let expected =
+                reference::host_correction(amounts, balanced, prices, &mut cents_after[1], &mut remainder_after[1]);
+            // Numbers around the lists, the cents and the remainder must stay, and the lists too.
+            let lent = [(amounts, 1), (balanced, 2), (prices, 4)].map(|(list, turn)| between(list, index / turn));
+            let before = lent.clone();
+            let part = |at: usize| &lent[at].0[lent[at].1.clone()];
+            let (mut cents, mut remainder) = ([KEPT as i64; 3], [KEPT; 3]);
+            let found = host::correction(part(0), part(1), part(2), &mut cents[1], &mut remainder[1]);
+            number(expected, found)?;
+            if lent != before {
+                return Err("the lists or numbers around them changed".to_string());
+            }
+            if (cents, remainder) != (cents_after, remainder_after) {
+                return Err(format!(
+                    "cents and remainder, each between two others: reference {cents_after:?} {remainder_after:?}, \
+                     library {cents:?} {remainder:?}"
+                ));
+            }
+            Ok(())
+        }
     }
 }
 
@@ -174,6 +205,9 @@ fn describe(call: &Call) -> String {
             format!("show {number}\narchive ({} bytes):\n{}", archive.len(), hex(archive))
         }
         Call::DeliveryDay { quarter, holidays } => format!("delivery day of quarter {quarter}\nholidays {holidays:?}"),
+        Call::Correction { amounts, balanced, prices } => {
+            format!("correction\namounts {amounts:?}\nbalanced {balanced:?}\nprices {prices:?}")
+        }
     }
 }
 
@@ -188,7 +222,7 @@ fn main() -> ExitCode {
             return ExitCode::from(2);
         }
     };
-    let names = ["settle", "fresh", "append", "show", "audit", "delivery day", "take back"];
+    let names = ["settle", "fresh", "append", "show", "audit", "delivery day", "take back", "correction"];
     let mut calls = names.map(|name| (name, 0u64));
     for index in first..first + count {
         let call = generate::call(seed, index).call;
@@ -206,6 +240,7 @@ fn main() -> ExitCode {
             Call::Audit { .. } => 4,
             Call::DeliveryDay { .. } => 5,
             Call::TakeBack { .. } => 6,
+            Call::Correction { .. } => 7,
         };
         calls[kind].1 += 1;
     }

@@ -22,10 +22,11 @@ use versions::{Place, Version};
 
 const USAGE: &str = "usage: once SIDE CALL ROW SIZE.. | once rows FOLDER..";
 
-/// The row of append.
-const CHAIN: &str = "quarters";
+/// The row of append, and that of the correction.
+const QUARTERS: &str = "quarters";
 
 type Settle = fn(&[u8], u64, u64, &mut [u8], &mut [u8]) -> u32;
+type Correction = fn(&[i64], &[i64], &[i64], &mut i64, &mut u64) -> u32;
 
 /// Calls in Rust, made as those of the library are: by pointers, with the same arguments.
 struct Calls {
@@ -33,12 +34,24 @@ struct Calls {
     append: fn(&mut [u8], u64, &[u8]) -> u32,
     audit: fn(&[u8]) -> u32,
     take_back: fn(&mut [u8]) -> u32,
+    correction: Correction,
 }
 
-const FAST: Calls =
-    Calls { settle: fast::host_settle, append: fast::append, audit: fast::audit, take_back: fast::take_back };
+const FAST: Calls = Calls {
+    settle: fast::host_settle,
+    append: fast::append,
+    audit: fast::audit,
+    take_back: fast::take_back,
+    correction: fast::correction,
+};
 
-const NOTHING: Calls = Calls { settle: |_, _, _, _, _| 0, append: |_, _, _| 0, audit: |_| 0, take_back: |_| 0 };
+const NOTHING: Calls = Calls {
+    settle: |_, _, _, _, _| 0,
+    append: |_, _, _| 0,
+    audit: |_| 0,
+    take_back: |_| 0,
+    correction: |_, _, _, _, _| 0,
+};
 
 enum Side {
     Library(Place),
@@ -89,7 +102,7 @@ fn once(side: Side, call: &str, row: &str, sizes: &[usize]) -> u32 {
             }
         }
         ("append", &[length]) => {
-            assert_eq!(row, CHAIN, "a row of append");
+            assert_eq!(row, QUARTERS, "a row of append");
             let (mut archive, owner, _) = with_room(length, &mut Rng::new(7, 7));
             match side {
                 Library(place) => counted(&mut || place.append(&mut archive, owner, &APPENDED)),
@@ -108,6 +121,21 @@ fn once(side: Side, call: &str, row: &str, sizes: &[usize]) -> u32 {
             match side {
                 Library(place) => counted(&mut || place.take_back(&mut archive)),
                 Rust(calls) => counted(&mut || (calls.take_back)(&mut archive)),
+            }
+        }
+        ("correction", &[quarters]) => {
+            assert_eq!(row, QUARTERS, "a row of the correction");
+            // As long for fewer quarters, so that they lie at the same place.
+            let lists = priced(2_976, &mut Rng::new(7, 7));
+            let [amounts, balanced, prices] = [0, 1, 2].map(|at| &lists[at][..quarters]);
+            let (mut cents, mut rest) = (0, 0);
+            match side {
+                Library(place) => {
+                    counted(&mut || place.correction(amounts, balanced, prices, &mut cents, &mut rest));
+                }
+                Rust(calls) => {
+                    counted(&mut || (calls.correction)(amounts, balanced, prices, &mut cents, &mut rest));
+                }
             }
         }
         _ => panic!("{}", USAGE),
@@ -130,7 +158,10 @@ fn rows(versions: &[Version]) {
     if versions.iter().all(Version::takes_back) {
         ORDERS.iter().for_each(|(_, name)| print("take_back", name));
     }
-    print("append", CHAIN);
+    print("append", QUARTERS);
+    if versions.iter().all(Version::corrects) {
+        print("correction", QUARTERS);
+    }
 }
 
 fn run() {

@@ -8,7 +8,10 @@
 //! of some of them, and tables with the columns Archive, Change, Call and Result. The result of `take back` is a number,
 //! or for 0 what changed, as in `0: r6 = 00; r5[4-7] = 0; r0[4-7] = 6`. FORMAT section 16 has the layout of the
 //! delivery days, tables with the columns Quarter, Holidays and Result. The dates of RULES section 13, in tables with
-//! the columns of `DATES`, must be those of the plain calendar.
+//! the columns of `DATES`, must be those of the plain calendar. FORMAT section 18 has the layout of the corrections,
+//! which stand there and in RULES section 15, in tables with the columns Amounts, Balanced, Prices and Result: a list
+//! is `none`, or numbers and repeated ones, as in `-1, 2,976 times 5`; the result is a number, or for 0 cents and
+//! remainder, as in `0: -1; remainder 999,999`.
 
 #[cfg(feature = "compare")]
 #[path = "shared/host.rs"]
@@ -25,17 +28,19 @@ use std::process::{Command, ExitCode, Stdio};
 use std::{env, fs, thread};
 
 const PAGES: [&str; 2] = ["FORMAT.md", "RULES.md"];
-/// Columns of the table of archives, of the tables of calls, of delivery days and of dates.
+/// Columns of the table of archives, of the tables of calls, of delivery days, of dates and of corrections.
 const FILES: [&str; 5] = ["Archive", "Bytes", "SHA-256", "Output, bytes", "SHA-256 of the output"];
 const CALLS: [&str; 4] = ["Archive", "Change", "Call", "Result"];
 const DELIVERIES: [&str; 3] = ["Quarter", "Holidays", "Result"];
 const DATES: [&str; 6] = ["Quarter number", "Date", "Clock time", "Quarter of the day", "Day number", "Weekday"];
+const CORRECTIONS: [&str; 4] = ["Amounts", "Balanced", "Prices", "Result"];
 /// Places of a list where the page names none.
 const PLACES: usize = 3_000;
 /// What list and result part hold before a call.
 const UNTOUCHED: u8 = 0xee;
-/// What the lent day holds before a call.
+/// What the lent day holds before a call, and the lent cents and remainder.
 const UNTOUCHED_DAY: u64 = u64::MAX;
+const UNTOUCHED_CENTS: (i64, u64) = (i64::MIN, u64::MAX);
 
 #[derive(Clone, Debug)]
 enum Call {
@@ -46,10 +51,12 @@ enum Call {
     Fresh,
     DeliveryDay { quarter: u64, holidays: Vec<u32> },
     TakeBack,
+    Correction { amounts: Vec<i64>, balanced: Vec<i64>, prices: Vec<i64> },
     Program,
 }
 
-/// All that can be seen of a call: number, later bytes of the archive or the list, result part, day; or the lines.
+/// All that can be seen of a call: number, later bytes of the archive or the list, result part, day, cents with their
+/// remainder; or the lines.
 #[derive(Clone, Debug, PartialEq, Eq)]
 enum Outcome {
     Settled { number: u32, list: Vec<u8>, result: Vec<u8> },
@@ -57,6 +64,7 @@ enum Outcome {
     Number(u32),
     Shown(u64),
     Delivered { number: u32, day: u64 },
+    Corrected { number: u32, cents: (i64, u64) },
     Lines(String),
 }
 
@@ -191,6 +199,16 @@ fn days(text: &str) -> Result<Vec<u32>, Fault> {
     Ok(list)
 }
 
+/// A list of numbers: `none`, or numbers, repeated ones as in `2,976 times 5`.
+fn numbers(text: &str) -> Result<Vec<i64>, Fault> {
+    let mut list = Vec::new();
+    for part in text.split(", ").filter(|_| text != "none") {
+        let (times, value) = part.split_once(" times ").unwrap_or(("1", part));
+        list.resize(list.len() + number::<usize>(times)?, number(value)?);
+    }
+    Ok(list)
+}
+
 /// What the page says, as an outcome.
 fn outcome(example: &Example) -> Result<Outcome, Fault> {
     let (archive, text) = (&example.archive, &example.result[..]);
@@ -278,6 +296,16 @@ fn outcome(example: &Example) -> Result<Outcome, Fault> {
             let day = if refusal == 0 { number(rest)? } else { UNTOUCHED_DAY };
             Ok(Outcome::Delivered { number: refusal, day })
         }
+        Call::Correction { .. } => {
+            let refusal: u32 = number(head)?;
+            let mut cents = UNTOUCHED_CENTS;
+            if refusal == 0 {
+                let (whole, rest) =
+                    rest.split_once("; remainder ").ok_or(format!("no result of correction: {text}"))?;
+                cents = (number(whole)?, number(rest)?);
+            }
+            Ok(Outcome::Corrected { number: refusal, cents })
+        }
         Call::Program => Ok(Outcome::Lines(match text {
             "nothing" => String::new(),
             _ => text.split(" / ").map(|line| format!("{line}\n")).collect(),
@@ -294,6 +322,7 @@ trait Calls {
     fn fresh(&self, archive: &mut [u8]) -> u32;
     fn delivery_day(&self, quarter: u64, holidays: &[u32], day: &mut u64) -> u32;
     fn take_back(&self, archive: &mut [u8]) -> u32;
+    fn correction(&self, lists: [&[i64]; 3], cents: &mut (i64, u64)) -> u32;
     /// The program's lines, if this implementation has a program.
     fn program(&self, input: &[u8]) -> io::Result<Option<Vec<u8>>>;
 }
@@ -326,6 +355,9 @@ impl Calls for Plain {
     fn take_back(&self, archive: &mut [u8]) -> u32 {
         reference::take_back(archive)
     }
+    fn correction(&self, [amounts, balanced, prices]: [&[i64]; 3], cents: &mut (i64, u64)) -> u32 {
+        reference::host_correction(amounts, balanced, prices, &mut cents.0, &mut cents.1)
+    }
     fn program(&self, input: &[u8]) -> io::Result<Option<Vec<u8>>> {
         let mut lines = Vec::new();
         reference::program(input, &mut lines)?;
@@ -354,6 +386,9 @@ impl Calls for Slip {
     }
     fn take_back(&self, archive: &mut [u8]) -> u32 {
         slips::take_back(*self, archive)
+    }
+    fn correction(&self, [amounts, balanced, prices]: [&[i64]; 3], cents: &mut (i64, u64)) -> u32 {
+        slips::correction(*self, amounts, balanced, prices, &mut cents.0, &mut cents.1)
     }
     fn program(&self, input: &[u8]) -> io::Result<Option<Vec<u8>>> {
         Ok(Some(slips::program(*self, input)))
@@ -387,6 +422,9 @@ impl Calls for Proved {
     }
     fn take_back(&self, archive: &mut [u8]) -> u32 {
         host::take_back(archive)
+    }
+    fn correction(&self, [amounts, balanced, prices]: [&[i64]; 3], cents: &mut (i64, u64)) -> u32 {
+        host::correction(amounts, balanced, prices, &mut cents.0, &mut cents.1)
     }
     fn program(&self, input: &[u8]) -> io::Result<Option<Vec<u8>>> {
         self.lines(input)
@@ -441,6 +479,11 @@ fn run(calls: &dyn Calls, example: &Example) -> io::Result<Option<Outcome>> {
             let number = calls.delivery_day(*quarter, holidays, &mut day);
             Outcome::Delivered { number, day }
         }
+        Call::Correction { amounts, balanced, prices } => {
+            let mut cents = UNTOUCHED_CENTS;
+            let number = calls.correction([amounts, balanced, prices], &mut cents);
+            Outcome::Corrected { number, cents }
+        }
         Call::Program => match calls.program(archive)? {
             Some(lines) => Outcome::Lines(String::from_utf8_lossy(&lines).into_owned()),
             None => return Ok(None),
@@ -464,6 +507,10 @@ fn in_words(outcome: &Outcome) -> String {
         Outcome::Shown(place) => format!("place {place}"),
         Outcome::Delivered { number, day: UNTOUCHED_DAY } => format!("{number}, the day left"),
         Outcome::Delivered { number, day } => format!("{number}: {}", grouped(*day as i64)),
+        Outcome::Corrected { number, cents: UNTOUCHED_CENTS } => format!("{number}, cents and remainder left"),
+        Outcome::Corrected { number, cents: (whole, rest) } => {
+            format!("{number}: {}; remainder {}", grouped(*whole), grouped(*rest as i64))
+        }
         Outcome::Lines(lines) => lines.trim_end().replace('\n', " / "),
     }
 }
@@ -499,6 +546,8 @@ struct Pages {
     deliveries: Vec<(String, [String; 3])>,
     /// The cells of each date.
     dates: Vec<(String, [String; 6])>,
+    /// The three lists and the result of each correction.
+    corrections: Vec<(String, [String; 4])>,
 }
 
 /// The cells of a table's row, without the backticks around a whole cell.
@@ -564,6 +613,9 @@ impl Pages {
             if let Some(cells) = picked(&columns, &row, DELIVERIES) {
                 self.deliveries.push((place.clone(), cells));
             }
+            if let Some(cells) = picked(&columns, &row, CORRECTIONS) {
+                self.corrections.push((place.clone(), cells));
+            }
             if let Some(cells) = picked(&columns, &row, DATES) {
                 self.dates.push((place, cells));
             }
@@ -621,6 +673,11 @@ impl Pages {
             let fault = |fault: Fault| format!("{at}: {fault}");
             let quarter = number(quarter).map_err(fault)?;
             let call = Call::DeliveryDay { quarter, holidays: days(holidays).map_err(fault)? };
+            examples.push(Example { at: at.clone(), archive: Vec::new(), call, result: result.clone() });
+        }
+        for (at, [amounts, balanced, prices, result]) in &self.corrections {
+            let list = |text: &str| numbers(text).map_err(|fault| format!("{at}: {fault}"));
+            let call = Call::Correction { amounts: list(amounts)?, balanced: list(balanced)?, prices: list(prices)? };
             examples.push(Example { at: at.clone(), archive: Vec::new(), call, result: result.clone() });
         }
         Ok((archives, examples))

@@ -6,6 +6,7 @@
 
 use reference::archive::{field, link, record, used, ADJUSTED, FIRST, NEXT, NONAVAILABLE, SECOND};
 use reference::calendar::{next_days, Date, Day, QuarterHour, LAST};
+use reference::correction::MOST_QUARTERS;
 use reference::filing::names;
 use reference::generate::{self, Call, BOUNDED, NUMBERS, SETTLED};
 use reference::settle::{
@@ -24,6 +25,7 @@ struct Tally {
     late: BTreeMap<Pairing, u64>,
     beside: BTreeMap<u32, u64>,
     october: BTreeMap<(String, usize), u64>,
+    priced: BTreeMap<(String, usize), u64>,
     sizes: BTreeMap<&'static str, u64>,
     slips: Vec<u64>,
     unexpected: u64,
@@ -43,6 +45,10 @@ impl Tally {
         *self.october.entry((what, kind)).or_default() += u64::from(reached);
     }
 
+    fn priced(&mut self, what: &str, list: usize, reached: bool) {
+        *self.priced.entry((what.to_string(), list)).or_default() += u64::from(reached);
+    }
+
     /// Counts every slip of a call that gives another outcome than the right reading.
     fn slips<T: PartialEq>(&mut self, of: Of, right: T, wrong: impl Fn(Slip) -> T) {
         if wrong(Slip::None) != right {
@@ -56,8 +62,9 @@ impl Tally {
     }
 }
 
-/// What the lent day of a delivery day holds before the call.
+/// What the lent day of a delivery day holds before the call, and the lent cents and remainder of a correction.
 const KEPT: u64 = 77;
+const KEPT_CENTS: (i64, u64) = (-77, 1_000_077);
 
 /// A dated measure that settled.
 fn dated(tally: &mut Tally, pairing: Pairing, first: u64, count: u64) {
@@ -306,6 +313,117 @@ fn asked_back(tally: &mut Tally, archive: &[u8], used: u64, number: u32) {
     tally.size("its number in the low 24 bits of a link", taken && low(24));
 }
 
+/// The end of each list's range.
+const ENDS: [i64; 3] = [1_000_000_000, 1_000_000_000, 1_000_000];
+
+/// A correction with this number, and the lists' numbers at and beside the ends of their ranges.
+fn corrected(tally: &mut Tally, lists: [&[i64]; 3], number: u32, cents: (i64, u64)) {
+    let [amounts, balanced, prices] = lists;
+    let wide = [0, 1, 2].map(|list| {
+        let end = ENDS[list];
+        lists[list].iter().position(|one| !(-end..=end).contains(one))
+    });
+    for (list, numbers) in lists.into_iter().enumerate() {
+        let end = ENDS[list];
+        let holds = |value: i64| numbers.contains(&value);
+        let mut count = |what: &str, reached: bool| tally.priced(what, list, reached);
+        count("taken: low end", number == 0 && holds(-end));
+        count("taken: one above the low end", number == 0 && holds(1 - end));
+        count("taken: one below the high end", number == 0 && holds(end - 1));
+        count("taken: high end", number == 0 && holds(end));
+        count("taken: -1", number == 0 && holds(-1));
+        count("taken: 0", number == 0 && holds(0));
+        // Refused for this list alone.
+        let alone = (0..3).all(|other| wide[other].is_some() == (other == list)) && amounts.len() <= MOST_QUARTERS;
+        let refused = alone && number == if list == 2 { 21 } else { 20 };
+        count("alone out of range: one below the low end", refused && holds(-end - 1));
+        count("alone out of range: one above the high end", refused && holds(end + 1));
+        count("alone out of range: the least of 64 bits", refused && holds(i64::MIN));
+        count("alone out of range: the most of 64 bits", refused && holds(i64::MAX));
+        let in_range = |value: i64| (-end..=end).contains(&value);
+        let bad = wide[list].map_or(0, |place| numbers[place]);
+        count("alone out of range: allowed in its low 32 bits", refused && in_range(i64::from(bad as i32)));
+        count(
+            "alone out of range: allowed but for 2^32",
+            refused && [1 << 32, -1 << 32].iter().any(|&more| in_range(bad.wrapping_add(more))),
+        );
+        count("alone out of range: allowed but for 2^63", refused && in_range(bad ^ i64::MIN));
+        count(
+            "alone out of range, at the first of several places",
+            refused && numbers.len() > 1 && wide[list] == Some(0),
+        );
+        let last = numbers.len().saturating_sub(1);
+        count("alone out of range, at the last of several places", refused && last > 0 && wide[list] == Some(last));
+        // Beside another refusal.
+        count("out of range beside 22", number == 22 && wide[list].is_some());
+        let many = number == 20 && amounts.len() > MOST_QUARTERS;
+        count("out of range beside more than 2,976 quarters", many && wide[list].is_some());
+        let shorter = numbers.len() < lists.iter().map(|list| list.len()).max().unwrap_or(0);
+        let others: Vec<usize> = (0..3).filter(|&other| other != list).map(|other| lists[other].len()).collect();
+        count("22 for this list alone, shorter", number == 22 && shorter && others[0] == others[1]);
+        count("22 for this list alone, longer", number == 22 && !shorter && others[0] == others[1]);
+        count("22 with this list empty", number == 22 && numbers.is_empty());
+        count("22 with more than 2,976 in this list", number == 22 && numbers.len() > MOST_QUARTERS);
+    }
+    let [amount, balance, price] = wide;
+    let energy = amount.into_iter().chain(balance).min();
+    let both = number == 20 && amounts.len() <= MOST_QUARTERS && price.is_some() && energy.is_some();
+    tally.size("corrections with 20 and a bad price at an earlier place", both && price < energy);
+    tally.size("corrections with 20 and a bad price at the same place", both && price == energy);
+    tally.size("corrections with 20 and a bad price at a later place", both && price > energy);
+    tally.size(
+        "corrections with 20 for 2,977 quarters alone",
+        number == 20 && amounts.len() == 2_977 && wide == [None; 3],
+    );
+    if number != 0 {
+        return;
+    }
+    for (count, what) in [
+        (0, "corrections of no quarter"),
+        (1, "corrections of one quarter"),
+        (96, "corrections of 96 quarters"),
+        (2_975, "corrections of 2,975 quarters"),
+        (2_976, "corrections of 2,976 quarters"),
+    ] {
+        tally.size(what, amounts.len() == count);
+    }
+    for (remainder, what) in [
+        (0, ["corrections below 0 with remainder 0", "corrections above 0 with remainder 0"]),
+        (1, ["corrections below 0 with remainder 1", "corrections above 0 with remainder 1"]),
+        (500_000, ["corrections below 0 with remainder 500,000", "corrections above 0 with remainder 500,000"]),
+        (999_999, ["corrections below 0 with remainder 999,999", "corrections above 0 with remainder 999,999"]),
+    ] {
+        let reached = cents.1 == remainder && cents != (0, 0);
+        tally.size(what[0], reached && cents.0 < 0);
+        tally.size(what[1], reached && cents.0 >= 0);
+    }
+    for (whole, what) in [
+        ((0, 0), "corrections of 0"),
+        ((0, 1), "corrections of 0 and 1"),
+        ((0, 999_999), "corrections of 0 and 999,999"),
+        ((1, 0), "corrections of 1 and 0"),
+        ((-1, 999_999), "corrections of -1 and 999,999"),
+        ((-1, 1), "corrections of -1 and 1"),
+        ((-1, 0), "corrections of -1 and 0"),
+        ((-2, 999_999), "corrections of -2 and 999,999"),
+        ((5_952_000_000_000, 0), "corrections of the largest sum"),
+        ((-5_952_000_000_000, 0), "corrections of the least sum"),
+    ] {
+        tally.size(what, cents == whole && !amounts.is_empty());
+    }
+    let gap = |place: usize| amounts[place] - balanced[place];
+    let signs = |gap_sign: i64, price_sign: i64| {
+        (0..amounts.len()).any(|place| gap(place).signum() == gap_sign && prices[place].signum() == price_sign)
+    };
+    tally.size("corrections with a gap below 0 and a price below 0", signs(-1, -1));
+    tally.size("corrections with a gap below 0 and a price above 0", signs(-1, 1));
+    tally.size("corrections with a gap above 0 and a price below 0", signs(1, -1));
+    tally.size("corrections with a gap above 0 and a price above 0", signs(1, 1));
+    tally.size("corrections with a gap of 2,000,000,000", (0..amounts.len()).any(|place| gap(place) == 2 * ENDS[0]));
+    tally.size("corrections with a gap of -2,000,000,000", (0..amounts.len()).any(|place| gap(place) == -2 * ENDS[0]));
+    tally.size("corrections beyond 2^53 millionths of a cent", cents.0.unsigned_abs() > 9_007_199_254);
+}
+
 fn one_call(tally: &mut Tally, seed: u64, index: u64) {
     let case = generate::call(seed, index);
     let number = match case.call {
@@ -430,6 +548,18 @@ fn one_call(tally: &mut Tally, seed: u64, index: u64) {
             });
             Some(number)
         }
+        Call::Correction { amounts, balanced, prices } => {
+            let (mut cents, mut remainder) = KEPT_CENTS;
+            let number = reference::host_correction(&amounts, &balanced, &prices, &mut cents, &mut remainder);
+            tally.number("correction", number);
+            corrected(tally, [&amounts, &balanced, &prices], number, (cents, remainder));
+            tally.slips(Of::Correction, (number, cents, remainder), |slip| {
+                let (mut cents, mut remainder) = KEPT_CENTS;
+                let number = slips::correction(slip, &amounts, &balanced, &prices, &mut cents, &mut remainder);
+                (number, cents, remainder)
+            });
+            Some(number)
+        }
     };
     if case.expected.is_some() && case.expected != number {
         tally.unexpected += 1;
@@ -457,6 +587,21 @@ fn one_input(tally: &mut Tally, seed: u64, index: u64) {
         }
     }
     tally.slips(Of::Program, out, |slip| slips::program(slip, &input));
+}
+
+/// A row of three counts for each situation.
+fn three(counts: &BTreeMap<(String, usize), u64>, calls: u64, missed: &mut Vec<String>) {
+    let mut rows: BTreeMap<&str, [Option<u64>; 3]> = BTreeMap::new();
+    for ((what, kind), &times) in counts {
+        rows.entry(what).or_default()[*kind] = Some(times);
+    }
+    for (what, times) in &rows {
+        let shown: Vec<String> = times.iter().map(|one| one.map_or("-".into(), |times| times.to_string())).collect();
+        println!("  {what}: {}", shown.join(", "));
+        if times.contains(&Some(0)) && calls >= 100_000 {
+            missed.push(format!("never for one of the three: {what}"));
+        }
+    }
 }
 
 fn main() -> ExitCode {
@@ -525,17 +670,10 @@ fn main() -> ExitCode {
     println!();
 
     println!("\nReadings of October 2026: wind, other negative, other positive (- where it can't be)");
-    let mut rows: BTreeMap<&str, [Option<u64>; 3]> = BTreeMap::new();
-    for ((what, kind), &times) in &tally.october {
-        rows.entry(what).or_default()[*kind] = Some(times);
-    }
-    for (what, times) in &rows {
-        let shown: Vec<String> = times.iter().map(|one| one.map_or("-".into(), |times| times.to_string())).collect();
-        println!("  {what}: {}", shown.join(", "));
-        if times.contains(&Some(0)) && count >= 100_000 {
-            missed.push(format!("never for one of the three: {what}"));
-        }
-    }
+    three(&tally.october, count, &mut missed);
+
+    println!("\nNumbers of a correction: amounts, balanced energies, prices");
+    three(&tally.priced, count, &mut missed);
 
     println!("\nOther situations");
     for (what, times) in &tally.sizes {

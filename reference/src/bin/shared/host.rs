@@ -24,10 +24,20 @@ mod c {
         pub fn sandegmur_show(archive: *const u8, archive_length: usize, number: u64) -> u64;
         pub fn sandegmur_delivery_day(quarter: u64, holidays: *const u32, holiday_count: usize, day: *mut u64) -> u32;
         pub fn sandegmur_take_back(archive: *mut u8, archive_length: usize) -> u32;
+        pub fn sandegmur_correction(
+            amounts: *const i64,
+            amount_count: usize,
+            balanced: *const i64,
+            balanced_count: usize,
+            prices: *const i64,
+            price_count: usize,
+            cents: *mut i64,
+            remainder: *mut u64,
+        ) -> u32;
     }
 }
 
-// Safety, of all seven: pointer and length of every part come from one live slice, and the parts don't overlap.
+// Safety, of all eight: pointer and length of every part come from one live slice, and the parts don't overlap.
 
 pub fn settle(archive: &[u8], p: u64, k: u64, list: &mut [u8], result: &mut [u8]) -> u32 {
     unsafe {
@@ -70,4 +80,19 @@ pub fn delivery_day(quarter: u64, holidays: &[u32], day: &mut u64) -> u32 {
 
 pub fn take_back(archive: &mut [u8]) -> u32 {
     unsafe { c::sandegmur_take_back(archive.as_mut_ptr(), archive.len()) }
+}
+
+pub fn correction(amounts: &[i64], balanced: &[i64], prices: &[i64], cents: &mut i64, remainder: &mut u64) -> u32 {
+    unsafe {
+        c::sandegmur_correction(
+            amounts.as_ptr(),
+            amounts.len(),
+            balanced.as_ptr(),
+            balanced.len(),
+            prices.as_ptr(),
+            prices.len(),
+            cents,
+            remainder,
+        )
+    }
 }

@@ -124,3 +124,14 @@ pub const APPENDED: [u8; 32] = {
     record[0] = 5;
     record
 };
+
+/// The amounts, balanced energies and prices of so many quarters; with more quarters the first ones are the same.
+pub fn priced(quarters: usize, rng: &mut Rng) -> [Vec<i64>; 3] {
+    let mut lists = [Vec::new(), Vec::new(), Vec::new()];
+    for _ in 0..quarters {
+        lists[0].push(rng.range(0, 500_000));
+        lists[1].push(rng.range(0, 500_000));
+        lists[2].push(rng.range(-5_000, 30_000));
+    }
+    lists
+}

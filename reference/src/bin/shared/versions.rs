@@ -18,6 +18,8 @@ type Append = unsafe extern "C" fn(*mut u8, usize, u64, *const u8, usize) -> u32
 type Audit = unsafe extern "C" fn(*const u8, usize) -> u32;
 type DeliveryDay = unsafe extern "C" fn(u64, *const u32, usize, *mut u64) -> u32;
 type TakeBack = unsafe extern "C" fn(*mut u8, usize) -> u32;
+type Correction =
+    unsafe extern "C" fn(*const i64, usize, *const i64, usize, *const i64, usize, *mut i64, *mut u64) -> u32;
 
 /// The library at one place of the code.
 pub struct Place {
@@ -28,6 +30,8 @@ pub struct Place {
     delivery_day: Option<DeliveryDay>,
     /// None in a version before taking back.
     take_back: Option<TakeBack>,
+    /// None in a version before the correction.
+    correction: Option<Correction>,
 }
 
 pub struct Version {
@@ -61,6 +65,10 @@ impl Version {
     pub fn takes_back(&self) -> bool {
         self.places.iter().all(|place| place.take_back.is_some())
     }
+
+    pub fn corrects(&self) -> bool {
+        self.places.iter().all(|place| place.correction.is_some())
+    }
 }
 
 impl Place {
@@ -87,11 +95,15 @@ impl Place {
                     object,
                     b"sandegmur_take_back\0".as_ptr().cast(),
                 )),
+                correction: std::mem::transmute::<*mut c_void, Option<Correction>>(dlsym(
+                    object,
+                    b"sandegmur_correction\0".as_ptr().cast(),
+                )),
             }
         }
     }
 
-    // Safety, of all five: pointer and length of every part come from one live slice, and the parts don't overlap.
+    // Safety, of all six: pointer and length of every part come from one live slice, and the parts don't overlap.
 
     pub fn settle(&self, archive: &[u8], p: u64, k: u64, list: &mut [u8], result: &mut [u8]) -> u32 {
         let (lent, places, parts) = (archive.as_ptr(), list.as_mut_ptr(), result.as_mut_ptr());
@@ -115,5 +127,19 @@ impl Place {
     pub fn take_back(&self, archive: &mut [u8]) -> u32 {
         let call = self.take_back.expect("a version that takes back");
         unsafe { call(archive.as_mut_ptr(), archive.len()) }
+    }
+
+    pub fn correction(
+        &self,
+        amounts: &[i64],
+        balanced: &[i64],
+        prices: &[i64],
+        cents: &mut i64,
+        remainder: &mut u64,
+    ) -> u32 {
+        let call = self.correction.expect("a version that corrects");
+        let lists = [amounts, balanced, prices].map(|list| (list.as_ptr(), list.len()));
+        let [(amounts, amount_count), (balanced, balanced_count), (prices, price_count)] = lists;
+        unsafe { call(amounts, amount_count, balanced, balanced_count, prices, price_count, cents, remainder) }
     }
 }
