@@ -1,4 +1,4 @@
-/* Sandegmur for hosts in C and C++: the calls on an archive of 32-byte records, and on the calendar.
+/* Sandegmur for hosts in C and C++: the calls on an archive of 32-byte records, on the calendar, and on lists of numbers.
  *
  * FORMAT.md has the archive's bytes, every call and every refusal, RULES.md the energy rules: docs/ of the source,
  * PREFIX/share/doc/sandegmur where it is installed. The library is for Linux on x86-64 alone.
@@ -23,7 +23,7 @@
 /* The version of these declarations: the first number changes when a call or a number changes its meaning, the second
  * when something is added. */
 #define SANDEGMUR_VERSION_MAJOR 1
-#define SANDEGMUR_VERSION_MINOR 4
+#define SANDEGMUR_VERSION_MINOR 5
 
 #ifdef __cplusplus
 extern "C" {
@@ -32,25 +32,28 @@ extern "C" {
 /* The numbers that a call can return. */
 enum {
     SANDEGMUR_NOT_REFUSED = 0,
-    SANDEGMUR_NOT_ARCHIVE = 1,         /* length not 32 x 1..65,535, text or U wrong */
-    SANDEGMUR_BAD_LINK = 2,            /* link not above its holder or not below U */
-    SANDEGMUR_WRONG_KIND = 3,          /* wrong kind at a link; in audit any unknown kind */
-    SANDEGMUR_NO_PLANT = 4,            /* no plant p */
-    SANDEGMUR_NO_MEASURE = 5,          /* no measure k */
-    SANDEGMUR_BAD_PLANT = 6,           /* technology, variant or nominal power */
-    SANDEGMUR_BAD_MEASURE = 7,         /* direction or execution; positive for wind or solar */
-    SANDEGMUR_BAD_COUNT = 8,           /* quarters not 1..2,976; before-quarters over 96 */
-    SANDEGMUR_OUT_OF_RANGE = 9,        /* needed field out of range */
-    SANDEGMUR_BAD_CURVE = 10,          /* under two curve points, or speeds not rising */
-    SANDEGMUR_TOO_FEW_USABLE = 11,     /* fewer usable before-quarters than needed */
-    SANDEGMUR_DIVISOR_ZERO = 12,       /* the before-quarters' curve power or irradiance sums to 0 */
-    SANDEGMUR_NO_ROOM = 13,            /* list shorter than the quarters, or a result part that is not 24 bytes long */
-    SANDEGMUR_BAD_RECORD = 14,         /* new record: not 32 bytes, kind not 1-5, or a link not 0 */
-    SANDEGMUR_BAD_OWNER = 15,          /* owner unused or of the wrong kind */
-    SANDEGMUR_ARCHIVE_FULL = 16,       /* U equals all records */
-    SANDEGMUR_NOT_NAMED_ONCE = 17,     /* audit: a record named by none or several */
-    SANDEGMUR_NOT_IN_CALENDAR = 18,    /* dated measure: a quarter past 3,506,400; delivery day: quarter 0 or past it */
-    SANDEGMUR_LAST_NOT_NAMED_ONCE = 19 /* taking back: U is 1, or the last record not named by precisely one link */
+    SANDEGMUR_NOT_ARCHIVE = 1,          /* length not 32 x 1..65,535, text or U wrong */
+    SANDEGMUR_BAD_LINK = 2,             /* link not above its holder or not below U */
+    SANDEGMUR_WRONG_KIND = 3,           /* wrong kind at a link; in audit any unknown kind */
+    SANDEGMUR_NO_PLANT = 4,             /* no plant p */
+    SANDEGMUR_NO_MEASURE = 5,           /* no measure k */
+    SANDEGMUR_BAD_PLANT = 6,            /* technology, variant or nominal power */
+    SANDEGMUR_BAD_MEASURE = 7,          /* direction or execution; positive for wind or solar */
+    SANDEGMUR_BAD_COUNT = 8,            /* quarters not 1..2,976; before-quarters over 96 */
+    SANDEGMUR_OUT_OF_RANGE = 9,         /* needed field out of range */
+    SANDEGMUR_BAD_CURVE = 10,           /* under two curve points, or speeds not rising */
+    SANDEGMUR_TOO_FEW_USABLE = 11,      /* fewer usable before-quarters than needed */
+    SANDEGMUR_DIVISOR_ZERO = 12,        /* the before-quarters' curve power or irradiance sums to 0 */
+    SANDEGMUR_NO_ROOM = 13,             /* list shorter than the quarters, or a result part that is not 24 bytes long */
+    SANDEGMUR_BAD_RECORD = 14,          /* new record: not 32 bytes, kind not 1-5, or a link not 0 */
+    SANDEGMUR_BAD_OWNER = 15,           /* owner unused or of the wrong kind */
+    SANDEGMUR_ARCHIVE_FULL = 16,        /* U equals all records */
+    SANDEGMUR_NOT_NAMED_ONCE = 17,      /* audit: a record named by none or several */
+    SANDEGMUR_NOT_IN_CALENDAR = 18,     /* dated measure: a quarter past 3,506,400; delivery day: quarter 0 or past it */
+    SANDEGMUR_LAST_NOT_NAMED_ONCE = 19, /* taking back: U is 1, or the last record not named by precisely one link */
+    SANDEGMUR_BAD_ENERGIES = 20,        /* correction: an energy beyond 1,000,000,000 either way, or over 2,976 quarters */
+    SANDEGMUR_BAD_PRICE = 21,           /* correction: a price beyond 1,000,000 either way */
+    SANDEGMUR_UNEQUAL_LISTS = 22        /* correction: lists of unequal length */
 };
 
 /* Sizes and the most of each. */
@@ -72,6 +75,13 @@ enum {
     SANDEGMUR_LAST_QUARTER = 3506400 /* 31 December 2099, 23:45 */
 };
 
+/* The financial correction: how far its energies and prices may reach, below 0 as well as above, and its remainder's unit. */
+enum {
+    SANDEGMUR_MOST_CORRECTED_ENERGY = 1000000000, /* Wh, of an amount or a balanced energy */
+    SANDEGMUR_MOST_PRICE = 1000000,               /* cents per MWh */
+    SANDEGMUR_MILLIONTHS_OF_CENT = 1000000        /* a millionth of a cent is 1 Wh at 1 cent per MWh */
+};
+
 /* In place of a quarter's power while not available or after market adjustment: there is no such reading. */
 enum { SANDEGMUR_NO_READING = 2147483647 };
 
@@ -79,7 +89,7 @@ enum { SANDEGMUR_NO_READING = 2147483647 };
 enum {
     SANDEGMUR_SETTLE_STACK = 30720, /* settle and sandegmur_settle */
     SANDEGMUR_AUDIT_STACK = 67584,
-    SANDEGMUR_OTHER_STACK = 1024 /* fresh, append, take_back, show and delivery_day */
+    SANDEGMUR_OTHER_STACK = 1024 /* fresh, append, take_back, show, delivery_day and correction */
 };
 
 /* Kinds of record. The head, record 0, has none. */
@@ -189,6 +199,20 @@ uint64_t sandegmur_show(const uint8_t *archive, size_t archive_length, uint64_t 
  * day: not NULL, and apart from the list. It gets the number of the day, or 0 where the list leaves that month fewer than four.
  * Refused with 18 for quarter 0 or one past SANDEGMUR_LAST_QUARTER; day then keeps its number. */
 uint32_t sandegmur_delivery_day(uint64_t quarter, const uint32_t *holidays, size_t holiday_count, uint64_t *day);
+
+/* The financial correction: (amount - balanced) x price / 1,000,000 in cents, added up exactly over all quarters and then rounded
+ * down once, toward minus infinity. Above 0 it raises the operator's claim, below 0 it lowers it.
+ * amounts, balanced, prices: a place for each quarter, energies in Wh and prices in cents per MWh. The list of sandegmur_settle
+ *     can be handed on as it is: an array of int64_t, lent to it as bytes, holds the amounts, as many as it counts quarters.
+ * cents, remainder: not NULL, and apart from the lists and each other. They get whole cents and the rest, 0 to 999,999 millionths
+ *     of a cent: SANDEGMUR_MILLIONTHS_OF_CENT x cents + remainder is the exact sum. -1 Wh at 1 cent per MWh gives -1 and
+ *     999,999, three such quarters -1 and 999,997, three empty lists 0 and 0.
+ * A single quarter is a list of one. Its cents are rounded down too, so those of the quarters need not add up to those of all.
+ * Refused with 22 for lists of unequal length; then 20 for more than SANDEGMUR_MOST_QUARTERS quarters, or for an energy anywhere
+ * beyond SANDEGMUR_MOST_CORRECTED_ENERGY either way, also where it is sandegmur_settle's; then 21 for a price anywhere beyond
+ * SANDEGMUR_MOST_PRICE either way. Cents and remainder then keep their numbers. */
+uint32_t sandegmur_correction(const int64_t *amounts, size_t amount_count, const int64_t *balanced, size_t balanced_count,
+                              const int64_t *prices, size_t price_count, int64_t *cents, uint64_t *remainder);
 
 /* ---- bytes */
 
@@ -337,6 +361,12 @@ static inline const char *sandegmur_refusal_text(uint32_t number)
         return "a quarter is not in the calendar, whose quarters are 1 to 3,506,400";
     case SANDEGMUR_LAST_NOT_NAMED_ONCE:
         return "there is no record to take back, or the last one is named by no link or by several";
+    case SANDEGMUR_BAD_ENERGIES:
+        return "an amount or balanced energy is beyond 1,000,000,000 Wh either way, or there are more than 2,976 quarters";
+    case SANDEGMUR_BAD_PRICE:
+        return "a price is beyond 1,000,000 cents per MWh either way";
+    case SANDEGMUR_UNEQUAL_LISTS:
+        return "the lists of amounts, balanced energies and prices are not equally long";
     default:
         return "no refusal has this number";
     }

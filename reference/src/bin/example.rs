@@ -1,7 +1,8 @@
 //! Writes document 01's printed example, case a: DIR/archive, the program's lines for it, DIR/program, and what
 //! examples/host.c has to print, DIR/host. DIR/dated is what examples/dated.c has to print: a dated measure and a
 //! delivery day of request 1. DIR/takeback is what examples/takeback.c has to print: a quarter filed under the wrong
-//! measure, taken back and filed under its own.
+//! measure, taken back and filed under its own. DIR/correction is what examples/correction.c has to print: a measure's
+//! financial correction, of each quarter and of all.
 
 use reference::archive::RECORD;
 use reference::builder::*;
@@ -12,6 +13,7 @@ use std::path::Path;
 use std::{env, fs, io};
 
 const TAKES: &str = "a string takes every line";
+const ALLOWED: &str = "energies and prices in range";
 
 fn archive_of(plant: Plant) -> Vec<u8> {
     file(&[plant], &Layout::PLAIN, &mut Rng::new(0, 0)).bytes
@@ -90,6 +92,47 @@ fn taken_back() -> String {
     text
 }
 
+/// Wind Pauschal, 2 MW: four quarters with their balanced energies and prices.
+fn corrected() -> String {
+    let measure = Measure {
+        direction: 2,
+        execution: 2,
+        first: 0,
+        before: vec![Before { mark: 1, measured: 1_500_000, weather: 0 }],
+        quarters: [200_001, 200_001, 250_002, 600_003]
+            .map(|measured| Quarter { measured, ..Quarter::default() })
+            .to_vec(),
+    };
+    let plant = Plant { technology: 1, variant: 2, nominal: 2_000_000, curve: Vec::new(), measures: vec![measure] };
+    let balanced = [300_000, 330_000, 320_000, 225_000];
+    let prices = [8_950, 9_125, -1_234, 4_210];
+    let mut amounts = [0; 4];
+    assert_eq!(reference::settle(&archive_of(plant), 1, 1, &mut amounts).number, 0);
+
+    let millionths = |cents: i64, remainder: u64| 1_000_000 * cents + remainder as i64;
+    let (mut cents_added, mut millionths_added) = (0, 0);
+    let mut text = String::new();
+    for at in 0..4 {
+        let (amount, balanced, price) = (amounts[at], balanced[at], prices[at]);
+        let (cents, remainder) = reference::correction(&[amount], &[balanced], &[price]).expect(ALLOWED);
+        let gap = amount - balanced;
+        write!(text, "quarter {}: amount {amount} Wh, balanced {balanced} Wh, gap {gap} Wh, ", at + 1).expect(TAKES);
+        writeln!(text, "price {price} cents per MWh: cents {cents}, remainder {remainder}").expect(TAKES);
+        cents_added += cents;
+        millionths_added += millionths(cents, remainder);
+    }
+    let (cents, remainder) = reference::correction(&amounts, &balanced, &prices).expect(ALLOWED);
+    let exact = millionths(cents, remainder);
+    // The example is to show this.
+    assert!(cents != cents_added && exact == millionths_added);
+    writeln!(text, "measure: cents {cents}, remainder {remainder}; in millionths of a cent {exact}").expect(TAKES);
+    writeln!(text, "quarters added up: cents {cents_added}; in millionths of a cent {millionths_added}").expect(TAKES);
+    let number = reference::correction(&amounts, &balanced, &prices[..3]).expect_err("unequal lists are refused");
+    let says = "the lists of amounts, balanced energies and prices are not equally long";
+    writeln!(text, "a price short: refused with {number}, {says}").expect(TAKES);
+    text
+}
+
 fn main() -> io::Result<()> {
     let directory = env::args().nth(1).expect("usage: example DIR");
     let directory = Path::new(&directory);
@@ -109,5 +152,6 @@ fn main() -> io::Result<()> {
     fs::write(directory.join("program"), lines)?;
     fs::write(directory.join("host"), host)?;
     fs::write(directory.join("dated"), dated())?;
-    fs::write(directory.join("takeback"), taken_back())
+    fs::write(directory.join("takeback"), taken_back())?;
+    fs::write(directory.join("correction"), corrected())
 }
