@@ -17,6 +17,10 @@ enum { DATED = 58, DATED_ARCHIVE = (3 + DATED) * SANDEGMUR_RECORD_BYTES, DATED_L
 /* For taking back: the archive's records, one or more of them unused. */
 enum { BACK = 12, BACK_ARCHIVE = BACK * SANDEGMUR_RECORD_BYTES };
 
+/* For the financial correction: its ends and its remainder's unit, not by the header's names; and which list is which. */
+enum { ENERGY = 1000000000, PRICE = 1000000, CENT = 1000000, MONTH = 2976 };
+enum { AMOUNTS, BALANCED, PRICES, LISTS };
+
 static int failed;
 
 #define CHECK(test) \
@@ -88,6 +92,7 @@ static void test_constants(void)
         SANDEGMUR_BAD_COUNT,   SANDEGMUR_OUT_OF_RANGE,   SANDEGMUR_BAD_CURVE,    SANDEGMUR_TOO_FEW_USABLE,
         SANDEGMUR_DIVISOR_ZERO, SANDEGMUR_NO_ROOM,       SANDEGMUR_BAD_RECORD,   SANDEGMUR_BAD_OWNER,
         SANDEGMUR_ARCHIVE_FULL, SANDEGMUR_NOT_NAMED_ONCE, SANDEGMUR_NOT_IN_CALENDAR, SANDEGMUR_LAST_NOT_NAMED_ONCE,
+        SANDEGMUR_BAD_ENERGIES, SANDEGMUR_BAD_PRICE,     SANDEGMUR_UNEQUAL_LISTS,
     };
     static const int kinds[] = { SANDEGMUR_PLANT, SANDEGMUR_CURVE_POINT, SANDEGMUR_MEASURE, SANDEGMUR_BEFORE_QUARTER,
                                  SANDEGMUR_QUARTER };
@@ -96,7 +101,7 @@ static void test_constants(void)
     static const int directions[] = { SANDEGMUR_POSITIVE, SANDEGMUR_NEGATIVE };
     static const int executions[] = { SANDEGMUR_REQUESTED, SANDEGMUR_TOLERATED, SANDEGMUR_BOTH_SIDES_FIXED };
     static const int marks[] = { SANDEGMUR_NOT_MARKED, SANDEGMUR_MARKED };
-    check_numbered(refusals, 20, 0);
+    check_numbered(refusals, 23, 0);
     check_numbered(kinds, 5, 1);
     check_numbered(technologies, 3, 1);
     check_numbered(variants, 2, 1);
@@ -106,6 +111,11 @@ static void test_constants(void)
     /* 100 years, 25 of them leap years. */
     CHECK(SANDEGMUR_LAST_QUARTER == (100 * 365 + 25) * SANDEGMUR_QUARTERS_OF_DAY);
     CHECK(SANDEGMUR_QUARTERS_OF_DAY == 96);
+    CHECK(SANDEGMUR_MOST_QUARTERS == 31 * SANDEGMUR_QUARTERS_OF_DAY);
+    CHECK(SANDEGMUR_MOST_CORRECTED_ENERGY == 1000000000);
+    CHECK(SANDEGMUR_MOST_PRICE == 1000000);
+    CHECK(SANDEGMUR_MILLIONTHS_OF_CENT == 1000000);
+    CHECK(SANDEGMUR_VERSION_MAJOR == 1 && SANDEGMUR_VERSION_MINOR == 5);
 }
 
 /* Each kind of record as FORMAT.md lays it out, whatever stood in the 32 bytes. */
@@ -175,11 +185,11 @@ static void test_amounts(void)
 /* Every refusal has a text of its own, and no other number has one. */
 static void test_texts(void)
 {
-    for (uint32_t number = 0; number <= SANDEGMUR_LAST_NOT_NAMED_ONCE + 1; number++)
+    for (uint32_t number = 0; number <= SANDEGMUR_UNEQUAL_LISTS + 1; number++)
         for (uint32_t other = 0; other < number; other++)
             CHECK(strcmp(sandegmur_refusal_text(number), sandegmur_refusal_text(other)) != 0);
     CHECK(strcmp(sandegmur_refusal_text(0), "not refused") == 0);
-    CHECK(strcmp(sandegmur_refusal_text(UINT32_MAX), sandegmur_refusal_text(SANDEGMUR_LAST_NOT_NAMED_ONCE + 1)) == 0);
+    CHECK(strcmp(sandegmur_refusal_text(UINT32_MAX), sandegmur_refusal_text(SANDEGMUR_UNEQUAL_LISTS + 1)) == 0);
 }
 
 /* A new record has the number U, and its first link or next link in the place that the header names. */
@@ -277,8 +287,10 @@ static void test_names(void)
 /* Lengths of 0, with NULL: no byte is touched, and each call answers by its length. */
 static void test_null(void)
 {
+    static const int64_t energy[] = { ENERGY + 1 };
     uint8_t archive[ARCHIVE], record[SANDEGMUR_RECORD_BYTES] = { 1, 3, 2 }, list[LIST], result[RESULT];
-    uint64_t day = FILL;
+    uint64_t day = FILL, remainder = FILL;
+    int64_t cents = FILL;
     file_case_a(archive);
     memset(list, FILL, LIST);
     memset(result, FILL, RESULT);
@@ -294,6 +306,13 @@ static void test_null(void)
     CHECK(settle(NULL, 0, 0, 0, NULL, 0, NULL, 0) == SANDEGMUR_NOT_ARCHIVE);
     CHECK(sandegmur_delivery_day(0, NULL, 0, &day) == SANDEGMUR_NOT_IN_CALENDAR && day == FILL);
     CHECK(sandegmur_delivery_day(1, NULL, 0, &day) == SANDEGMUR_NOT_REFUSED && day == 35);
+    CHECK(sandegmur_correction(energy, 1, NULL, 0, NULL, 0, &cents, &remainder) == SANDEGMUR_UNEQUAL_LISTS);
+    CHECK(sandegmur_correction(NULL, 0, energy, 1, NULL, 0, &cents, &remainder) == SANDEGMUR_UNEQUAL_LISTS);
+    CHECK(sandegmur_correction(NULL, 0, NULL, 0, energy, 1, &cents, &remainder) == SANDEGMUR_UNEQUAL_LISTS);
+    CHECK(sandegmur_correction(energy, 1, energy, 1, NULL, 0, &cents, &remainder) == SANDEGMUR_UNEQUAL_LISTS);
+    CHECK(cents == FILL && remainder == FILL);
+    CHECK(sandegmur_correction(NULL, 0, NULL, 0, NULL, 0, &cents, &remainder) == SANDEGMUR_NOT_REFUSED);
+    CHECK(cents == 0 && remainder == 0);
     CHECK(all_are(list, 0, LIST, FILL));
     CHECK(all_are(result, 0, RESULT, FILL));
 }
@@ -598,6 +617,308 @@ static void test_delivery_days(void)
     }
 }
 
+/* The lists of the tests below: amounts, balanced energies and prices. One place more than is allowed. */
+static int64_t lists[LISTS][MONTH + 1];
+
+struct answer {
+    uint32_t number;
+    int64_t cents;
+    uint64_t remainder;
+};
+
+static int within(const int64_t *list, size_t count, int64_t most)
+{
+    for (size_t i = 0; i < count; i++)
+        if (list[i] < -most || list[i] > most)
+            return 0;
+    return 1;
+}
+
+/* What the call has to answer to the first places of the lists, computed here. The exact sum fits 64 bits. */
+static struct answer own_correction(const size_t *counts)
+{
+    struct answer own = { SANDEGMUR_NOT_REFUSED, 0, 0 };
+    int64_t exact = 0;
+    size_t count = counts[AMOUNTS];
+    if (count != counts[BALANCED] || count != counts[PRICES])
+        own.number = SANDEGMUR_UNEQUAL_LISTS;
+    else if (count > MONTH || !within(lists[AMOUNTS], count, ENERGY) || !within(lists[BALANCED], count, ENERGY))
+        own.number = SANDEGMUR_BAD_ENERGIES;
+    else if (!within(lists[PRICES], count, PRICE))
+        own.number = SANDEGMUR_BAD_PRICE;
+    else
+        for (size_t i = 0; i < count; i++)
+            exact += (lists[AMOUNTS][i] - lists[BALANCED][i]) * lists[PRICES][i];
+    int64_t above = (exact % CENT + CENT) % CENT;
+    own.cents = (exact - above) / CENT;
+    own.remainder = (uint64_t)above;
+    return own;
+}
+
+/* The call on copies of these places between two other numbers, and with both results between two others: these, the lists and, if
+ * it is refused, both results stay. Twice, with other numbers in the results. */
+static struct answer check_correction(size_t amounts, size_t balanced, size_t prices)
+{
+    static int64_t copies[LISTS][MONTH + 3];
+    const size_t counts[LISTS] = { amounts, balanced, prices };
+    const struct answer own = own_correction(counts);
+    int refused = own.number != SANDEGMUR_NOT_REFUSED;
+    for (int64_t filled = -FILL; filled <= FILL; filled += 2 * FILL) {
+        int64_t cents[3] = { filled, filled, filled };
+        uint64_t rest = (uint64_t)filled, remainder[3] = { rest, rest, rest };
+        for (size_t i = 0; i < LISTS; i++) {
+            copies[i][0] = copies[i][1 + counts[i]] = filled;
+            memcpy(copies[i] + 1, lists[i], counts[i] * sizeof lists[i][0]);
+        }
+        CHECK(sandegmur_correction(copies[AMOUNTS] + 1, amounts, copies[BALANCED] + 1, balanced, copies[PRICES] + 1, prices,
+                                   cents + 1, remainder + 1) == own.number);
+        CHECK(cents[1] == (refused ? filled : own.cents));
+        CHECK(remainder[1] == (refused ? rest : own.remainder));
+        CHECK(cents[0] == filled && cents[2] == filled && remainder[0] == rest && remainder[2] == rest);
+        for (size_t i = 0; i < LISTS; i++) {
+            CHECK(copies[i][0] == filled && copies[i][1 + counts[i]] == filled);
+            CHECK(memcmp(copies[i] + 1, lists[i], counts[i] * sizeof lists[i][0]) == 0);
+        }
+    }
+    return own;
+}
+
+static void put_quarter(size_t place, int64_t amount, int64_t balanced, int64_t price)
+{
+    lists[AMOUNTS][place] = amount;
+    lists[BALANCED][place] = balanced;
+    lists[PRICES][place] = price;
+}
+
+/* One quarter: the ends of each range, one past them, numbers of more than 32 bits, and both sides of a whole cent. */
+static void test_one_corrected(void)
+{
+    static const int64_t energies[] = {
+        -ENERGY - 1, -ENERGY, -1000001, -1000000, -999999,    -500000,      -1,          0,         1,         500000,
+        999999,      1000000, 1000001,  ENERGY,   ENERGY + 1, -0x100000000, 0x100000000, INT64_MIN, INT64_MAX,
+    };
+    static const int64_t prices[] = {
+        -PRICE - 1, -PRICE, -PRICE + 1, -500000, -3,        -2,           -1,          0,         1,         2,
+        3,          500000, PRICE - 1,  PRICE,   PRICE + 1, -0x100000000, 0x100000000, INT64_MIN, INT64_MAX,
+    };
+    enum { NUMBERS = sizeof energies / sizeof energies[0] };
+    int refused[SANDEGMUR_UNEQUAL_LISTS + 1] = { 0 };
+    CHECK(NUMBERS == 19 && sizeof prices == sizeof energies);
+    for (size_t i = 0; i < NUMBERS; i++)
+        for (size_t j = 0; j < NUMBERS; j++)
+            for (size_t k = 0; k < NUMBERS; k++) {
+                put_quarter(0, energies[i], energies[j], prices[k]);
+                refused[check_correction(1, 1, 1).number]++;
+            }
+    /* In each list 13 numbers are allowed. */
+    CHECK(refused[SANDEGMUR_NOT_REFUSED] == 13 * 13 * 13);
+    CHECK(refused[SANDEGMUR_BAD_ENERGIES] == (19 * 19 - 13 * 13) * 19);
+    CHECK(refused[SANDEGMUR_BAD_PRICE] == 13 * 13 * 6);
+
+    static const struct {
+        int64_t amount, balanced, price, cents;
+        uint64_t remainder;
+    } cases[] = {
+        { 0, 1, 1, -1, 999999 },
+        { -1, 0, 1, -1, 999999 },
+        { 1, 0, -1, -1, 999999 },
+        { -1, 0, -1, 0, 1 },
+        { 999999, 0, 1, 0, 999999 },
+        { 1000000, 0, 1, 1, 0 },
+        { 0, 1000000, 1, -1, 0 },
+        { 0, 1000001, 1, -2, 999999 },
+        { 1, 0, PRICE, 1, 0 },
+        { ENERGY, ENERGY, PRICE, 0, 0 },
+        { ENERGY, -ENERGY, PRICE, 2000000000, 0 },
+        { -ENERGY, ENERGY, PRICE, -2000000000, 0 },
+        { -ENERGY, ENERGY, PRICE - 1, -1999998000, 0 },
+    };
+    for (size_t i = 0; i < sizeof cases / sizeof cases[0]; i++) {
+        put_quarter(0, cases[i].amount, cases[i].balanced, cases[i].price);
+        struct answer found = check_correction(1, 1, 1);
+        CHECK(found.cents == cases[i].cents && found.remainder == cases[i].remainder);
+    }
+}
+
+/* A number beyond either end in any place of five, or in none, in each list: 20 before 21, wherever they are. */
+static void test_correction_order(void)
+{
+    enum { COUNT = 5, NONE = 2 * COUNT, WAYS = NONE + 1 };
+    static const int64_t ends[LISTS] = { ENERGY, ENERGY, PRICE };
+    for (size_t bad = 0; bad < WAYS * WAYS * WAYS; bad++) {
+        const size_t at[LISTS] = { bad % WAYS, bad / WAYS % WAYS, bad / WAYS / WAYS };
+        for (size_t i = 0; i < COUNT; i++)
+            put_quarter(i, 700 + (int64_t)i, 333, 1000 * (int64_t)i - 2000);
+        for (size_t i = 0; i < LISTS; i++)
+            if (at[i] != NONE)
+                lists[i][at[i] / 2] = at[i] % 2 == 0 ? ends[i] + 1 : -ends[i] - 1;
+        uint32_t number = check_correction(COUNT, COUNT, COUNT).number;
+        CHECK(number == (at[AMOUNTS] != NONE || at[BALANCED] != NONE ? SANDEGMUR_BAD_ENERGIES
+                         : at[PRICES] != NONE                        ? SANDEGMUR_BAD_PRICE
+                                                                     : SANDEGMUR_NOT_REFUSED));
+    }
+}
+
+/* Lists of any lengths up to 4: 22 if they aren't equal, also beside bad energies, bad prices or both. */
+static void test_unequal(void)
+{
+    enum { LONGEST = 4 };
+    for (int bad = 0; bad < 4; bad++) {
+        uint32_t number = bad % 2 == 1 ? SANDEGMUR_BAD_ENERGIES : bad == 2 ? SANDEGMUR_BAD_PRICE : SANDEGMUR_NOT_REFUSED;
+        for (size_t i = 0; i < LONGEST; i++)
+            put_quarter(i, bad % 2 == 1 ? ENERGY + 1 : 1000, bad % 2 == 1 ? INT64_MIN : 999, bad >= 2 ? -PRICE - 1 : 7);
+        for (size_t i = 0; i <= LONGEST; i++)
+            for (size_t j = 0; j <= LONGEST; j++)
+                for (size_t k = 0; k <= LONGEST; k++) {
+                    uint32_t found = check_correction(i, j, k).number;
+                    CHECK((found == SANDEGMUR_UNEQUAL_LISTS) == (i != j || i != k));
+                    CHECK(found == SANDEGMUR_UNEQUAL_LISTS || i == 0 || found == number);
+                }
+    }
+}
+
+/* Few quarters, the most and one more: the highest and lowest sums, and less than a cent in each quarter. */
+static void test_correction_counts(void)
+{
+    static const size_t counts[] = { 0, 1, 2, 3, MONTH - 1, MONTH, MONTH + 1 };
+    for (int signs = 0; signs < 4; signs++) {
+        int64_t energy = signs % 2 == 0 ? ENERGY : -ENERGY, price = signs < 2 ? PRICE : -PRICE;
+        for (size_t i = 0; i < sizeof counts / sizeof counts[0]; i++) {
+            int64_t count = (int64_t)counts[i], up = signs == 0 || signs == 3 ? 1 : -1;
+            uint32_t number = counts[i] <= MONTH ? SANDEGMUR_NOT_REFUSED : SANDEGMUR_BAD_ENERGIES;
+            for (size_t j = 0; j < counts[i]; j++)
+                put_quarter(j, energy, -energy, price);
+            struct answer found = check_correction(counts[i], counts[i], counts[i]);
+            CHECK(found.number == number);
+            CHECK(number != SANDEGMUR_NOT_REFUSED || (found.cents == up * 2000000000 * count && found.remainder == 0));
+            CHECK(counts[i] != MONTH || found.cents == up * 5952000000000);
+
+            /* At 1 cent either way, 1 Wh and 999,999 Wh either way. */
+            for (size_t j = 0; j < counts[i]; j++)
+                put_quarter(j, energy / ENERGY, 0, price / PRICE);
+            found = check_correction(counts[i], counts[i], counts[i]);
+            CHECK(found.number == number);
+            if (number == SANDEGMUR_NOT_REFUSED && count > 0) {
+                CHECK(found.cents == (up > 0 ? 0 : -1));
+                CHECK(found.remainder == (uint64_t)(up > 0 ? count : 1000000 - count));
+            }
+            for (size_t j = 0; j < counts[i]; j++)
+                put_quarter(j, 0, -999999 * (energy / ENERGY), price / PRICE);
+            found = check_correction(counts[i], counts[i], counts[i]);
+            CHECK(found.number == number);
+            if (number == SANDEGMUR_NOT_REFUSED && count > 0) {
+                CHECK(found.cents == (up > 0 ? count - 1 : -count));
+                CHECK(found.remainder == (uint64_t)(up > 0 ? 1000000 - count : count));
+            }
+        }
+    }
+
+    /* The one price that isn't 0 is the last; a place more or less in any list; a bad price before a quarter too many. */
+    for (size_t i = 0; i <= MONTH; i++)
+        put_quarter(i, -1, 0, i == MONTH - 1 ? 1 : 0);
+    struct answer found = check_correction(MONTH, MONTH, MONTH);
+    CHECK(found.number == SANDEGMUR_NOT_REFUSED && found.cents == -1 && found.remainder == 999999);
+    for (size_t i = MONTH - 1; i <= MONTH + 1; i++)
+        for (size_t j = MONTH - 1; j <= MONTH + 1; j++)
+            for (size_t k = MONTH - 1; k <= MONTH + 1; k++)
+                CHECK((check_correction(i, j, k).number == SANDEGMUR_UNEQUAL_LISTS) == (i != j || i != k));
+    lists[PRICES][0] = PRICE + 1;
+    CHECK(check_correction(MONTH, MONTH, MONTH).number == SANDEGMUR_BAD_PRICE);
+    CHECK(check_correction(MONTH + 1, MONTH + 1, MONTH + 1).number == SANDEGMUR_BAD_ENERGIES);
+    lists[PRICES][0] = 0;
+    /* A bad number past the last place, and in it alone. */
+    for (size_t i = 0; i < LISTS; i++) {
+        uint32_t number = i == PRICES ? SANDEGMUR_BAD_PRICE : SANDEGMUR_BAD_ENERGIES;
+        for (size_t j = MONTH; j >= MONTH - 1; j--) {
+            int64_t was = lists[i][j];
+            lists[i][j] = INT64_MAX;
+            CHECK(check_correction(MONTH, MONTH, MONTH).number == (j == MONTH ? 0 : number));
+            lists[i][j] = was;
+        }
+    }
+}
+
+/* A number between -most and most; the next one each time. */
+static int64_t any(int64_t most)
+{
+    static uint64_t state = 1;
+    state = state * 6364136223846793005 + 1442695040888963407;
+    return (int64_t)(state >> 16) % (2 * most + 1) - most;
+}
+
+/* Quarter by quarter: with the remainders single quarters add up to the result of all, their cents alone fall behind. */
+static void test_correction_added(void)
+{
+    enum { DAY = 96 };
+    int64_t cents, cents_added = 0, exact_added = 0;
+    uint64_t remainder;
+    for (size_t i = 0; i < MONTH; i++) {
+        /* Days of great energies and prices, and of small ones. */
+        int great = i / DAY % 2 == 0;
+        put_quarter(i, any(great ? ENERGY : 2000), any(great ? ENERGY : 2000), any(great ? PRICE : 900));
+        CHECK(sandegmur_correction(lists[AMOUNTS] + i, 1, lists[BALANCED] + i, 1, lists[PRICES] + i, 1, &cents, &remainder)
+              == SANDEGMUR_NOT_REFUSED);
+        CHECK(remainder < CENT);
+        cents_added += cents;
+        exact_added += CENT * cents + (int64_t)remainder;
+        if ((i + 1) % (DAY / 4) == 0) {
+            struct answer found = check_correction(i + 1, i + 1, i + 1);
+            CHECK(found.number == SANDEGMUR_NOT_REFUSED);
+            CHECK(CENT * found.cents + (int64_t)found.remainder == exact_added);
+            CHECK(cents_added < found.cents);
+        }
+    }
+}
+
+/* The amounts as settle writes them into an array of numbers, handed on: those below 0, the highest that isn't refused, and one
+ * above it, which is settle's own. */
+static void test_settled_corrected(void)
+{
+    enum { BYTES = 6 * SANDEGMUR_RECORD_BYTES, COUNT = 2 };
+    static const int32_t below[] = { 600000, 500000 };
+    static const int64_t balanced[] = { -20000, 1 }, prices[] = { 9000, -1 };
+    uint8_t archive[ARCHIVE], result[RESULT], record[SANDEGMUR_RECORD_BYTES];
+    int64_t amounts[COUNT + 1], cents = FILL;
+    uint64_t remainder = FILL;
+    amounts[COUNT] = INT64_MIN;
+    file_measure(archive, SANDEGMUR_POSITIVE, 500000, below, COUNT);
+    CHECK(settle(archive, ARCHIVE, 1, 1, (uint8_t *)amounts, sizeof amounts, result, SANDEGMUR_RESULT_BYTES)
+          == SANDEGMUR_NOT_REFUSED);
+    CHECK(amounts[0] == -25000 && amounts[1] == 0 && amounts[COUNT] == INT64_MIN);
+    size_t count = (size_t)sandegmur_amount(result + SANDEGMUR_RESULT_COUNT_AT);
+    CHECK(sandegmur_correction(amounts, count, balanced, COUNT, prices, COUNT, &cents, &remainder) == SANDEGMUR_NOT_REFUSED);
+    CHECK(cents == -45 && remainder == 1);
+
+    /* Solar Spitz: the reference power is 2,000,000 x 2,000 / 1. */
+    for (int32_t measured = 4; measured >= -4; measured -= 4) {
+        uint32_t number = measured == -4 ? SANDEGMUR_BAD_ENERGIES : SANDEGMUR_NOT_REFUSED;
+        CHECK(sandegmur_fresh(archive, BYTES) == SANDEGMUR_NOT_REFUSED);
+        sandegmur_plant(record, SANDEGMUR_SOLAR, SANDEGMUR_SPITZ, 1000000);
+        CHECK(file(archive, BYTES, 0, record) == SANDEGMUR_NOT_REFUSED);
+        sandegmur_measure(record, SANDEGMUR_NEGATIVE, SANDEGMUR_TOLERATED);
+        CHECK(file(archive, BYTES, 1, record) == SANDEGMUR_NOT_REFUSED);
+        sandegmur_before_quarter(record, SANDEGMUR_MARKED, 2000000, 1);
+        CHECK(file(archive, BYTES, 2, record) == SANDEGMUR_NOT_REFUSED);
+        for (int i = 0; i < COUNT; i++) {
+            sandegmur_quarter(record, 0, 0, i == 0 ? 1000000000 : measured, 0, 2000, 0);
+            CHECK(file(archive, BYTES, 2, record) == SANDEGMUR_NOT_REFUSED);
+        }
+        CHECK(settle(archive, BYTES, 1, 1, (uint8_t *)amounts, sizeof amounts, result, SANDEGMUR_RESULT_BYTES)
+              == SANDEGMUR_NOT_REFUSED);
+        check_result(result, COUNT, 1750000000 - measured / 4, 5);
+        CHECK(amounts[0] == 750000000 && amounts[1] == 1000000000 - measured / 4 && amounts[COUNT] == INT64_MIN);
+        cents = FILL;
+        remainder = FILL;
+        CHECK(sandegmur_correction(amounts, COUNT, balanced, COUNT, prices, COUNT, &cents, &remainder) == number);
+        if (number == SANDEGMUR_NOT_REFUSED) {
+            /* 750,020,000 x 9,000 - (1,000,000,000 - measured / 4 - 1), in millionths. */
+            CHECK(cents == 6749180 && remainder == (uint64_t)(1 + measured / 4));
+        } else {
+            CHECK(cents == FILL && remainder == FILL);
+        }
+    }
+}
+
 /* Bytes in a block of just their length, so that valgrind sees an access beside them; NULL for none. */
 static uint8_t *block_of(const uint8_t *bytes, size_t length)
 {
@@ -649,6 +970,82 @@ static void test_delivery_blocks(void)
         free(list);
         free(day);
     }
+}
+
+/* Each list in a block of just its places and each result in one that nothing has written, for any lengths up to 3, the most
+ * places and one more; no number out of range, or the last price. */
+static void test_correction_blocks(void)
+{
+    enum { SHORT = 4 * 4 * 4 };
+    for (size_t i = 0; i <= MONTH; i++)
+        put_quarter(i, any(ENERGY), any(ENERGY), any(PRICE));
+    for (size_t i = 0; i < 2 * (SHORT + 2); i++) {
+        size_t lengths = i / 2, many = MONTH + lengths - SHORT, counts[LISTS] = { many, many, many };
+        if (lengths < SHORT) {
+            counts[AMOUNTS] = lengths % 4;
+            counts[BALANCED] = lengths / 4 % 4;
+            counts[PRICES] = lengths / 16;
+        }
+        int64_t last = 0, *blocks[LISTS], *cents = (int64_t *)(void *)block_of(NULL, sizeof *cents);
+        uint64_t *remainder = (uint64_t *)(void *)block_of(NULL, sizeof *remainder);
+        if (i % 2 == 1 && counts[PRICES] != 0) {
+            last = lists[PRICES][counts[PRICES] - 1];
+            lists[PRICES][counts[PRICES] - 1] = INT64_MIN;
+        }
+        for (size_t j = 0; j < LISTS; j++)
+            blocks[j] = (int64_t *)(void *)block_of((const uint8_t *)lists[j], counts[j] * sizeof lists[j][0]);
+        struct answer own = own_correction(counts);
+        CHECK(sandegmur_correction(blocks[AMOUNTS], counts[AMOUNTS], blocks[BALANCED], counts[BALANCED], blocks[PRICES],
+                                   counts[PRICES], cents, remainder) == own.number);
+        if (own.number == SANDEGMUR_NOT_REFUSED)
+            CHECK(*cents == own.cents && *remainder == own.remainder);
+        if (i % 2 == 1 && counts[PRICES] != 0)
+            lists[PRICES][counts[PRICES] - 1] = last;
+        for (size_t j = 0; j < LISTS; j++)
+            free(blocks[j]);
+        free(cents);
+        free(remainder);
+    }
+}
+
+/* Lists and results side by side in one array, in several orders: the call changes the results, or, if it is refused, nothing. */
+static void test_correction_beside(void)
+{
+    enum { COUNT = 3, ALL = LISTS * COUNT + 2 };
+    /* Where amounts, balanced energies, prices, cents and remainder begin. */
+    static const size_t orders[][LISTS + 2] = {
+        { 0, 3, 6, 9, 10 }, { 2, 5, 8, 0, 1 }, { 0, 4, 8, 3, 7 }, { 8, 5, 1, 0, 4 }, { 4, 1, 7, 10, 0 }, { 5, 0, 8, 4, 3 },
+    };
+    static const int64_t quarters[LISTS][COUNT] = { { -1, -1, -1 }, { 0, 0, 0 }, { 1, 1, 1 } };
+    static const int64_t before[] = { 0, 1, -1, 999999, INT64_MIN, INT64_MAX };
+    static const struct {
+        size_t list; /* whose last number gets bad */
+        uint32_t number;
+    } cases[] = {
+        { LISTS, SANDEGMUR_NOT_REFUSED },     { LISTS, SANDEGMUR_UNEQUAL_LISTS }, { AMOUNTS, SANDEGMUR_BAD_ENERGIES },
+        { BALANCED, SANDEGMUR_BAD_ENERGIES }, { PRICES, SANDEGMUR_BAD_PRICE },
+    };
+    int64_t all[ALL], expected[ALL];
+    for (size_t i = 0; i < sizeof orders / sizeof orders[0]; i++)
+        for (size_t j = 0; j < sizeof before / sizeof before[0]; j++)
+            for (size_t k = 0; k < sizeof cases / sizeof cases[0]; k++) {
+                const size_t *at = orders[i];
+                int64_t *cents = all + at[LISTS], *rest = all + at[LISTS + 1];
+                for (size_t list = 0; list < LISTS; list++)
+                    memcpy(all + at[list], quarters[list], sizeof quarters[list]);
+                *cents = *rest = before[j];
+                if (cases[k].list != LISTS)
+                    all[at[cases[k].list] + COUNT - 1] = INT64_MIN;
+                memcpy(expected, all, sizeof all);
+                if (cases[k].number == SANDEGMUR_NOT_REFUSED) {
+                    expected[at[LISTS]] = -1;
+                    expected[at[LISTS + 1]] = 999997;
+                }
+                CHECK(sandegmur_correction(all + at[AMOUNTS], COUNT, all + at[BALANCED], COUNT, all + at[PRICES],
+                                           cases[k].number == SANDEGMUR_UNEQUAL_LISTS ? COUNT - 1 : COUNT, cents, (uint64_t *)rest)
+                      == cases[k].number);
+                CHECK(memcmp(all, expected, sizeof all) == 0);
+            }
 }
 
 /* Taken back, every byte is as before the record was filed, and so one after another down to the fresh archive, then 19. */
@@ -867,8 +1264,16 @@ int main(void)
     test_late();
     test_october();
     test_delivery_days();
+    test_one_corrected();
+    test_correction_order();
+    test_unequal();
+    test_correction_counts();
+    test_correction_added();
+    test_settled_corrected();
     test_blocks();
     test_delivery_blocks();
+    test_correction_blocks();
+    test_correction_beside();
     test_undone();
     test_named();
     test_not_taken_back();

@@ -22,12 +22,14 @@ enum {
     ARCHIVE = RECORDS * SANDEGMUR_RECORD_BYTES
 };
 
-enum call { SETTLE, SETTLE_BY_NAME, AUDIT, FRESH, APPEND, TAKE_BACK, SHOW, DELIVERY_DAY };
+enum call { SETTLE, SETTLE_BY_NAME, AUDIT, FRESH, APPEND, TAKE_BACK, SHOW, DELIVERY_DAY, CORRECTION };
 
 static uint8_t archive[ARCHIVE], list[SANDEGMUR_MOST_QUARTERS * SANDEGMUR_PLACE_BYTES], result[SANDEGMUR_RESULT_BYTES];
 static uint8_t record[SANDEGMUR_RECORD_BYTES];
 static uint32_t holidays[HOLIDAYS];
 static uint64_t day;
+static int64_t amounts[SANDEGMUR_MOST_QUARTERS], balanced[SANDEGMUR_MOST_QUARTERS], prices[SANDEGMUR_MOST_QUARTERS], cents;
+static uint64_t rest;
 static uint8_t stack[STACK];
 static ucontext_t outside, inside;
 static enum call call;
@@ -62,6 +64,10 @@ static void run(void)
         break;
     case DELIVERY_DAY:
         answer = sandegmur_delivery_day(OCTOBER, holidays, HOLIDAYS, &day);
+        break;
+    case CORRECTION:
+        answer = sandegmur_correction(amounts, SANDEGMUR_MOST_QUARTERS, balanced, SANDEGMUR_MOST_QUARTERS, prices,
+                                      SANDEGMUR_MOST_QUARTERS, &cents, &rest);
         break;
     }
 }
@@ -146,6 +152,16 @@ int main(void)
     for (uint32_t i = 0; i < HOLIDAYS; i++)
         holidays[i] = 9800 + i;
     hold("delivery_day", taken(DELIVERY_DAY, SANDEGMUR_NOT_REFUSED), SANDEGMUR_OTHER_STACK, 1);
+    for (int i = 0; i < SANDEGMUR_MOST_QUARTERS; i++) {
+        amounts[i] = SANDEGMUR_MOST_CORRECTED_ENERGY;
+        balanced[i] = -i;
+        prices[i] = i - SANDEGMUR_MOST_PRICE;
+    }
+    hold("correction", taken(CORRECTION, SANDEGMUR_NOT_REFUSED), SANDEGMUR_OTHER_STACK, 1);
+    prices[SANDEGMUR_MOST_QUARTERS - 1] = SANDEGMUR_MOST_PRICE + 1;
+    hold("correction, refused for a price", taken(CORRECTION, SANDEGMUR_BAD_PRICE), SANDEGMUR_OTHER_STACK, 1);
+    amounts[SANDEGMUR_MOST_QUARTERS - 1]++;
+    hold("correction, refused for an energy", taken(CORRECTION, SANDEGMUR_BAD_ENERGIES), SANDEGMUR_OTHER_STACK, 1);
     hold("fresh", taken(FRESH, SANDEGMUR_NOT_REFUSED), SANDEGMUR_OTHER_STACK, 1);
     return failed;
 }
