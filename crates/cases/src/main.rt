@@ -192,7 +192,7 @@ fn correction_of(numbers: &[i64], first: u64, second: u64) -> Answer {
     );
     let money = corrected.money;
     Answer {
-        number: corrected.number,
+        number: corrected.refusal,
         count: money.remainder,
         total: money.cents,
         links: 0,

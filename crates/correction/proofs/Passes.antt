@@ -21,7 +21,7 @@ use Rattle.rules.specs.declared.Corrected.{Corrected}
 use Rattle.rules.specs.Outcome.{Outcome, refused, given, _>>_, require}
 use Rattle.rules.specs.Refusals.{badEnergies, badPrice, unequalLists}
 use Rattle.rules.specs.Numbers.{orZero, all}
-use Rattle.rules.specs.Correction.{Gap, gap, gapsOf, isEnergy, energiesAllowed, priceAllowed, millionths, costOf, total, moneyOf, correctionOver, correction, correctedOf}
+use Rattle.rules.specs.Correction.{Gap, gapOf, gapsOf, isEnergy, energiesAllowed, priceAllowed, millionths, costOf, totalCost, moneyOf, correctionOver, correction, correctedOf}
 use Rattle.rules.specs.Promises.{Corrects}
 use Rattle.rules.proofs.Correction.{cost-small}
 use Rattle.rules.proofs.Ints.{under, orZero-add, under-add}
@@ -62,9 +62,6 @@ pub energy-of-second : (t u : Bool) → u ≡ false → badEnergies ≡ cond (t 
 energy-of-second true u e = rw e
 energy-of-second false u e = refl
 
-pub price-alone : (t u : Bool) → t ≡ true → u ≡ true → badPrice ≡ cond (t && u) badPrice badEnergies
-price-alone t u e f = rw (e, f)
-
 -- ---- the three lists together
 
 gaps-length : (amounts balanced prices : List ℤ) → length balanced ≡ length amounts → length prices ≡ length amounts → length (gapsOf amounts balanced prices) ≡ length amounts
@@ -95,11 +92,11 @@ unfoldable pub rest : ℤ → List Gap → Outcome Money
 rest exact gaps = do
   require (all energiesAllowed gaps) badEnergies
   require (all priceAllowed gaps) badPrice
-  given (moneyOf (millionths (exact +ℤ total (map costOf gaps) .0)))
+  given (moneyOf (millionths (exact +ℤ totalCost (map costOf gaps) .0)))
 
 begins : (gaps : List Gap) → leb (length gaps) 2976 ≡ true → correctionOver gaps ≡ rest (pos 0) gaps
 unfolding correctionOver rest
-begins gaps few = rw (few, +ℤ-idl (total (map costOf gaps) .0))
+begins gaps few = rw (few, +ℤ-idl (totalCost (map costOf gaps) .0))
 
 too-many : (gaps : List Gap) → leb (length gaps) 2976 ≡ false → correctionOver gaps ≡ refused badEnergies
 unfolding correctionOver _>>_ require
@@ -107,7 +104,7 @@ too-many gaps many = rw many
 
 goes : (exact : ℤ) (g : Gap) (gs : List Gap) → energiesAllowed g ≡ true → priceAllowed g ≡ true → rest exact (g ∷ gs) ≡ rest (exact +ℤ costOf g .0) gs
 unfolding rest
-goes exact g gs h k = rw (h, k, +ℤ-assoc exact (costOf g .0) (total (map costOf gs) .0))
+goes exact g gs h k = rw (h, k, +ℤ-assoc exact (costOf g .0) (totalCost (map costOf gs) .0))
 
 -- a quarter that isn't allowed: 20 for an energy in it or behind it, else 21
 stops : (exact : ℤ) (g : Gap) (gs : List Gap) → (energiesAllowed g && priceAllowed g) ≡ false
@@ -116,7 +113,7 @@ unfolding rest _>>_ require
 stops exact g gs = by (energiesAllowed g) (priceAllowed g) (all energiesAllowed gs)
   where
     by : (t u v : Bool) → (t && u) ≡ false
-        → (require (t && v) badEnergies >> (require (u && all priceAllowed gs) badPrice >> given (moneyOf (millionths (exact +ℤ total (map costOf (g ∷ gs)) .0)))))
+        → (require (t && v) badEnergies >> (require (u && all priceAllowed gs) badPrice >> given (moneyOf (millionths (exact +ℤ totalCost (map costOf (g ∷ gs)) .0)))))
         ≡ refused (cond (t && v) badPrice badEnergies)
     by false u v e = refl
     by true u false e = refl
@@ -149,7 +146,7 @@ module _ (amounts balanced prices : List ℤ) (b : length balanced ≡ length am
   }
 
   module _ (exact : ℤ) (i : ℕ) (s : Summing amounts balanced prices exact i) where
-    pub sum-ends : length amounts ≤ i → (money : Money) → money ≡ moneyOf (millionths exact) → record { number = 0; money = money } ≡ answer
+    pub sum-ends : length amounts ≤ i → (money : Money) → money ≡ moneyOf (millionths exact) → record { refusal = 0; money = money } ≡ answer
     sum-ends h money is =
         let e = drop-all amounts i (s .inside) h in
         ap (λ (m : Money). correctedOf (given m)) is ∙ sym (ap correctedOf (s .left ∙ ap (λ (l : List ℤ). rest exact (gapsOf l (drop i balanced) (drop i prices))) e ∙ ends exact))
@@ -157,7 +154,7 @@ module _ (amounts balanced prices : List ℤ) (b : length balanced ≡ length am
     module _ (within : i < length amounts) where
       -- the quarter at this place
       abbrev at : Gap
-      at = gap (getD amounts i (pos 0)) (getD balanced i (pos 0)) (getD prices i (pos 0))
+      at = gapOf (getD amounts i (pos 0)) (getD balanced i (pos 0)) (getD prices i (pos 0))
 
       abbrev behind : List Gap
       behind = gapsOf (drop (i + 1) amounts) (drop (i + 1) balanced) (drop (i + 1) prices)
@@ -181,7 +178,7 @@ module _ (amounts balanced prices : List ℤ) (b : length balanced ≡ length am
 
       -- its numbers as the code reads them
       abbrev read : Gap
-      read = gap (held (getD amounts i (pos 0))) (held (getD balanced i (pos 0))) (held (getD prices i (pos 0)))
+      read = gapOf (held (getD amounts i (pos 0))) (held (getD balanced i (pos 0))) (held (getD prices i (pos 0)))
 
       module _ (fa : mag (getD amounts i (pos 0)) < 2 ^ 63) (fb : mag (getD balanced i (pos 0)) < 2 ^ 63) (fp : mag (getD prices i (pos 0)) < 2 ^ 63) where
         read-is : read ≡ at

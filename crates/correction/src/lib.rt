@@ -5,7 +5,7 @@ ghost use lib.ListN.{length};
 ghost use Rattle.rules.specs.Outcome.{refused};
 ghost use Rattle.rules.specs.Refusals.{badEnergies, badPrice};
 ghost use Rattle.rules.specs.Numbers.{all};
-ghost use Rattle.rules.specs.Correction.{gap, gapsOf, isEnergy, isPrice, energiesAllowed, priceAllowed, costOf, moneyOf, correctionOver, correctedOf};
+ghost use Rattle.rules.specs.Correction.{gapOf, gapsOf, isEnergy, isPrice, energiesAllowed, priceAllowed, costOf, moneyOf, correctionOver, correctedOf};
 ghost use Rattle.rules.specs.Promises.{Corrects};
 use rules::Corrected;
 use rules::MillionthCent;
@@ -29,16 +29,16 @@ fn is_price(price: Price) -> bool
 }
 
 fn is_allowed(amount: WattHour, balanced: WattHour, price: Price) -> bool
-    ensures { λ r. ⌜ r ≡ (energiesAllowed (gap (amount .0) (balanced .0) (price .0)) && priceAllowed (gap (amount .0) (balanced .0) (price .0))) ⌝ }
+    ensures { λ r. ⌜ r ≡ (energiesAllowed (gapOf (amount .0) (balanced .0) (price .0)) && priceAllowed (gapOf (amount .0) (balanced .0) (price .0))) ⌝ }
 {
     is_energy(amount) & is_energy(balanced) & is_price(price)
 }
 
 // (amount - balanced) × price: at most 2 × 10^15 either way.
 fn cost_of(amount: WattHour, balanced: WattHour, price: Price) -> MillionthCent
-    requires { ⌜ energiesAllowed (gap (amount .0) (balanced .0) (price .0)) ≡ true ⌝ }
-    requires { ⌜ priceAllowed (gap (amount .0) (balanced .0) (price .0)) ≡ true ⌝ }
-    ensures { λ r. ⌜ r ≡ costOf (gap (amount .0) (balanced .0) (price .0)) ⌝ }
+    requires { ⌜ energiesAllowed (gapOf (amount .0) (balanced .0) (price .0)) ≡ true ⌝ }
+    requires { ⌜ priceAllowed (gapOf (amount .0) (balanced .0) (price .0)) ≡ true ⌝ }
+    ensures { λ r. ⌜ r ≡ costOf (gapOf (amount .0) (balanced .0) (price .0)) ⌝ }
 {
     MillionthCent((amount.0 - balanced.0) * price.0)
 }
@@ -68,12 +68,12 @@ fn money_of(exact: MillionthCent) -> Money
 fn all_energies(energies: &[i64]) -> bool
     ensures { λ r. ⌜ r ≡ all isEnergy (now (energies .entry)) ⌝ }
 {
-    let mut i = 0;
-    while i < energies.len() {
-        if !is_energy(WattHour(energies[i])) {
+    let mut place = 0;
+    while place < energies.len() {
+        if !is_energy(WattHour(energies[place])) {
             return false;
         }
-        i += 1;
+        place += 1;
     }
     true
 }
@@ -86,20 +86,20 @@ fn refusal_of(number: u64) -> Corrected
         cents: 0,
         remainder: 0,
     };
-    Corrected { number, money }
+    Corrected {
+        refusal: number,
+        money,
+    }
 }
 
 // The first quarter of these isn't allowed: 20 where an energy is beyond its range, in it or behind it, and 21 where only a price is.
 fn number_from(amounts: &[i64], balanced: &[i64]) -> u64
     ensures { λ r. ⌜ r ≡ cond (all isEnergy (now (amounts .entry)) && all isEnergy (now (balanced .entry))) badPrice badEnergies ⌝ }
 {
-    if !all_energies(amounts) {
-        return refusal::BAD_ENERGIES;
+    if all_energies(amounts) && all_energies(balanced) {
+        return refusal::BAD_PRICE;
     }
-    if !all_energies(balanced) {
-        return refusal::BAD_ENERGIES;
-    }
-    refusal::BAD_PRICE
+    refusal::BAD_ENERGIES
 }
 
 // Lists that are equally long, in one pass up to the first quarter that isn't allowed.
@@ -123,17 +123,14 @@ fn correction_over(amounts: &[i64], balanced: &[i64], prices: &[i64]) -> Correct
         i += 1;
     }
     let money = money_of(MillionthCent(exact));
-    Corrected { number: 0, money }
+    Corrected { refusal: 0, money }
 }
 
 // Amounts and balanced energies in Wh, prices in cents per MWh, a place of each list for every quarter.
 pub fn correction(amounts: &[i64], balanced: &[i64], prices: &[i64]) -> Corrected
     ensures { λ r. ⌜ Corrects (now (amounts .entry)) (now (balanced .entry)) (now (prices .entry)) r ⌝ }
 {
-    if balanced.len() != amounts.len() {
-        return refusal_of(refusal::UNEQUAL_LISTS);
-    }
-    if prices.len() != amounts.len() {
+    if balanced.len() != amounts.len() || prices.len() != amounts.len() {
         return refusal_of(refusal::UNEQUAL_LISTS);
     }
     correction_over(amounts, balanced, prices)

@@ -23,25 +23,25 @@ module _ (amounts balanced prices : List ℤ) (was : ℤ) (rest : ℕ) (x : Corr
       → cents ≡ after o (λ m. m .cents) was → remainder ≡ after o (λ m. m .remainder) rest → HostCorrects amounts balanced prices was cents rest remainder number
   by-outcome o e cents remainder number a c r = record { answers = rw e a; leaves-cents = rw e c; leaves-remainder = rw e r }
 
-  number-is : x .number ≡ numberOf outcome
+  number-is : x .refusal ≡ numberOf outcome
   number-is = of outcome (h .answers)
     where
-      of : (o : Outcome Money) → x ≡ correctedOf o → x .number ≡ numberOf o
-      of (refused n) e = ap (λ c. c .number) e
-      of (given m) e = ap (λ c. c .number) e
+      of : (o : Outcome Money) → x ≡ correctedOf o → x .refusal ≡ numberOf o
+      of (refused n) e = ap (λ c. c .refusal) e
+      of (given m) e = ap (λ c. c .refusal) e
 
-  pub correction-small : x .number ≤ 255
+  pub correction-small : x .refusal ≤ 255
   correction-small = omega (arith, number-is, number-small correctionRefusals refl outcome (every-call-answers .corrects amounts balanced prices))
 
-  pub not-corrected : (x .number ≡ 0 → ⊥) → HostCorrects amounts balanced prices was was rest rest (x .number)
+  pub not-corrected : (x .refusal ≡ 0 → ⊥) → HostCorrects amounts balanced prices was was rest rest (x .refusal)
   not-corrected some = of outcome refl number-is
     where
-      of : (o : Outcome Money) → outcome ≡ o → x .number ≡ numberOf o → HostCorrects amounts balanced prices was was rest rest (x .number)
-      of (refused n) e k = by-outcome (refused n) e was rest (x .number) k refl refl
+      of : (o : Outcome Money) → outcome ≡ o → x .refusal ≡ numberOf o → HostCorrects amounts balanced prices was was rest rest (x .refusal)
+      of (refused n) e k = by-outcome (refused n) e was rest (x .refusal) k refl refl
       of (given m) e k = absurd (some k)
 
   -- the cents as the code holds them
-  pub corrected : x .number ≡ 0 → mag (x .money .cents) < 2 ^ 63 → HostCorrects amounts balanced prices was (held (x .money .cents)) rest (x .money .remainder) 0
+  pub corrected : x .refusal ≡ 0 → mag (x .money .cents) < 2 ^ 63 → HostCorrects amounts balanced prices was (held (x .money .cents)) rest (x .money .remainder) 0
   corrected none fits =
       let g = given-by-number correctionRefusals refl outcome (every-call-answers .corrects amounts balanced prices) (sym number-is ∙ none) in
       let money : x .money ≡ g .0 = ap (λ (c : Corrected). c .money) (h .answers ∙ ap correctedOf (g .1)) in

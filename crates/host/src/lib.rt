@@ -160,8 +160,8 @@ pub extern "C" fn sandegmur_correction(
         (now (cents .entry)) (now (cents .exit)) (now (remainder .entry)) (now (remainder .exit)) r ⌝ }
 {
     let corrected = correction::correction(amounts, balanced, prices);
-    if corrected.number != 0 {
-        return corrected.number as u32;
+    if corrected.refusal != 0 {
+        return corrected.refusal as u32;
     }
     let money = corrected.money;
     let whole = money.cents;

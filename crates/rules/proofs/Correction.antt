@@ -13,8 +13,8 @@ use lib.ListN.{length, getD}
 use Rattle.rules.specs.Outcome.{Outcome, given, _>>_, require}
 use Rattle.rules.specs.Refusals.{badEnergies, badPrice, unequalLists}
 use Rattle.rules.specs.Numbers.{orZero, all}
-use Rattle.rules.specs.Correction.{Price, MillionthCent, Money, Gap, gap, gapsOf, isEnergy, isPrice, energiesAllowed, priceAllowed}
-use Rattle.rules.specs.Correction.{millionths, costOf, total, roundedDown, centsOf, moneyOf, exactOf, correctionOver, correction}
+use Rattle.rules.specs.Correction.{Price, MillionthCent, Money, Gap, gapOf, gapsOf, isEnergy, isPrice, energiesAllowed, priceAllowed}
+use Rattle.rules.specs.Correction.{millionths, costOf, totalCost, roundedDown, centsOf, moneyOf, exactMoney, correctionOver, correction}
 use Rattle.rules.specs.Demands.{CorrectsExactly, CorrectionsExact, alone, QuartersAddUp, PricesRaised, CorrectionsRise}
 use Rattle.rules.proofs.Inversion.{given-inj}
 use Rattle.rules.proofs.Ints.{under, parts-eq, parts-le, le-parts, orZero-neg, under-neg, orZero-minus, under-minus, orZero-times, under-times, add-parts, ≤ℤ-trans, times-mono}
@@ -60,8 +60,8 @@ back (negsuc n) =
     parts-eq (w +ℤ l) (negsuc n)
     (omega (arith, add-parts w l, left-negative n, orZero-times (negsuc (n / 1000000)) 1000000, under-times (negsuc (n / 1000000)) 1000000))
 
-pub split-exact : (exact : MillionthCent) → exactOf (moneyOf exact) ≡ exact
-unfolding moneyOf exactOf
+pub split-exact : (exact : MillionthCent) → exactMoney (moneyOf exact) ≡ exact
+unfolding moneyOf exactMoney
 split-exact exact = ap millionths (back (exact .0))
 
 -- ---- lists that aren't refused
@@ -73,7 +73,7 @@ record Allowed (gaps : List Gap) : Type 0 where
 
 record Gives (gaps : List Gap) (money : Money) : Type 0 where
   allowed : Allowed gaps
-  is : money ≡ moneyOf (total (map costOf gaps))
+  is : money ≡ moneyOf (totalCost (map costOf gaps))
 
 corrected-gives : (gaps : List Gap) (money : Money) → correctionOver gaps ≡ given money → Gives gaps money
 unfolding correctionOver
@@ -83,7 +83,7 @@ corrected-gives gaps money e =
     let s = required (all priceAllowed gaps) badPrice _ (r .1) in
     record { allowed = record { few = t .0; energies = t .1; prices = s .0 }; is = sym (given-inj (s .1)) }
 
-gives-correctionOver : (gaps : List Gap) → Allowed gaps → correctionOver gaps ≡ given (moneyOf (total (map costOf gaps)))
+gives-correctionOver : (gaps : List Gap) → Allowed gaps → correctionOver gaps ≡ given (moneyOf (totalCost (map costOf gaps)))
 unfolding correctionOver _>>_ require
 gives-correctionOver gaps h = rw (h .few, h .energies, h .prices)
 
@@ -103,20 +103,20 @@ module _ (amounts balanced prices : List ℤ) (money : Money) (e : correction am
       let t = both (eqb (length balanced) (length amounts)) (eqb (length prices) (length amounts)) (passed .0) in
       (eqb-true (length balanced) (length amounts) (t .0), eqb-true (length prices) (length amounts) (t .1))
 
-  exact-is : exactOf money ≡ total (map costOf gaps)
-  exact-is = ap exactOf (gives .is) ∙ split-exact (total (map costOf gaps))
+  exact-is : exactMoney money ≡ totalCost (map costOf gaps)
+  exact-is = ap exactMoney (gives .is) ∙ split-exact (totalCost (map costOf gaps))
 
 pub corrections-exact : CorrectionsExact
 corrections-exact amounts balanced prices money e = record {
-  exact = exact-is amounts balanced prices money e;
-  below = subst (λ (m : Money). m .remainder < 1000000) (sym (gives amounts balanced prices money e .is)) (split-below (total (map costOf (gapsOf amounts balanced prices))));
+  is-sum = exact-is amounts balanced prices money e;
+  is-rest = subst (λ (m : Money). m .remainder < 1000000) (sym (gives amounts balanced prices money e .is)) (split-below (totalCost (map costOf (gapsOf amounts balanced prices))));
 }
 
 -- ---- quarters by themselves
 
 -- the cost of one quarter, split
 abbrev single : Gap → Money
-single g = moneyOf (total (map costOf (g ∷ [])))
+single g = moneyOf (totalCost (map costOf (g ∷ [])))
 
 alone-gives : (g : Gap) → energiesAllowed g ≡ true → priceAllowed g ≡ true → alone g ≡ given (single g)
 unfolding correction _>>_ require
@@ -130,11 +130,11 @@ all-alone (g ∷ gs) h k =
     ap₂ _∷_ (alone-gives g (a .0) (b .0)) (all-alone gs (a .1) (b .1))
 
 -- a cost split and put together is the cost
-singles-exact : (gaps : List Gap) → total (map exactOf (map single gaps)) ≡ total (map costOf gaps)
+singles-exact : (gaps : List Gap) → totalCost (map exactMoney (map single gaps)) ≡ totalCost (map costOf gaps)
 singles-exact [] = refl
 singles-exact (g ∷ gs) =
-    let one : exactOf (single g) .0 ≡ costOf g .0 = ap (λ m. m .0) (split-exact (total (map costOf (g ∷ [])))) ∙ plus-none (costOf g .0) in
-    let rest : total (map exactOf (map single gs)) .0 ≡ total (map costOf gs) .0 = ap (λ m. m .0) (singles-exact gs) in
+    let one : exactMoney (single g) .0 ≡ costOf g .0 = ap (λ m. m .0) (split-exact (totalCost (map costOf (g ∷ [])))) ∙ plus-none (costOf g .0) in
+    let rest : totalCost (map exactMoney (map single gs)) .0 ≡ totalCost (map costOf gs) .0 = ap (λ m. m .0) (singles-exact gs) in
     ap millionths (ap₂ _+ℤ_ one rest)
   where
     plus-none : (z : ℤ) → z +ℤ pos 0 ≡ z
@@ -165,7 +165,7 @@ gap-rises a b p q above h =
     let e : a -ℤ b ≡ pos n = parts-eq (a -ℤ b) (pos n) (omega (arith, under-minus a b, le-parts above)) in
     rw e (rw (*ℤ-comm (pos n) p, *ℤ-comm (pos n) q) (times-mono n h))
 
-cost-rises : (a b p q : ℤ) → p ≤ℤ q → (a <ℤ b → p ≡ q) → costOf (gap a b p) .0 ≤ℤ costOf (gap a b q) .0
+cost-rises : (a b p q : ℤ) → p ≤ℤ q → (a <ℤ b → p ≡ q) → costOf (gapOf a b p) .0 ≤ℤ costOf (gapOf a b q) .0
 unfolding costOf
 cost-rises a b p q h same = by (ltZ a b) refl
   where
@@ -174,22 +174,22 @@ cost-rises a b p q h same = by (ltZ a b) refl
     by false e = gap-rises a b p q (ltZ-no (rw e tt)) h
 
 -- at each place of the lists
-total-rises : (amounts balanced first second : List ℤ) → length first ≡ length second → PricesRaised amounts balanced first second
-    → total (map costOf (gapsOf amounts balanced first)) .0 ≤ℤ total (map costOf (gapsOf amounts balanced second)) .0
-total-rises [] balanced first second l r = ≤ℤ-refl (pos 0)
-total-rises (a ∷ amounts) [] first second l r = ≤ℤ-refl (pos 0)
-total-rises (a ∷ amounts) (b ∷ balanced) [] [] l r = ≤ℤ-refl (pos 0)
-total-rises (a ∷ amounts) (b ∷ balanced) [] (q ∷ second) l r = absurd (omega arith)
-total-rises (a ∷ amounts) (b ∷ balanced) (p ∷ first) [] l r = absurd (omega arith)
-total-rises (a ∷ amounts) (b ∷ balanced) (p ∷ first) (q ∷ second) l r =
+totalCost-rises : (amounts balanced first second : List ℤ) → length first ≡ length second → PricesRaised amounts balanced first second
+    → totalCost (map costOf (gapsOf amounts balanced first)) .0 ≤ℤ totalCost (map costOf (gapsOf amounts balanced second)) .0
+totalCost-rises [] balanced first second l r = ≤ℤ-refl (pos 0)
+totalCost-rises (a ∷ amounts) [] first second l r = ≤ℤ-refl (pos 0)
+totalCost-rises (a ∷ amounts) (b ∷ balanced) [] [] l r = ≤ℤ-refl (pos 0)
+totalCost-rises (a ∷ amounts) (b ∷ balanced) [] (q ∷ second) l r = absurd (omega arith)
+totalCost-rises (a ∷ amounts) (b ∷ balanced) (p ∷ first) [] l r = absurd (omega arith)
+totalCost-rises (a ∷ amounts) (b ∷ balanced) (p ∷ first) (q ∷ second) l r =
     add-rises (cost-rises a b p q (r .no-lower 0) (r .equal-below 0))
-    (total-rises amounts balanced first second (omega arith) (record { no-lower = λ i. r .no-lower (suc i); equal-below = λ i. r .equal-below (suc i) }))
+    (totalCost-rises amounts balanced first second (omega arith) (record { no-lower = λ i. r .no-lower (suc i); equal-below = λ i. r .equal-below (suc i) }))
 
 pub corrections-rise : CorrectionsRise
 unfolding moneyOf
 corrections-rise amounts balanced first second money₁ money₂ e₁ e₂ r =
     let l : length first ≡ length second = as-long amounts balanced first money₁ e₁ .1 ∙ sym (as-long amounts balanced second money₂ e₂ .1) in
-    let h = total-rises amounts balanced first second l r in (
+    let h = totalCost-rises amounts balanced first second l r in (
       rw (gives amounts balanced first money₁ e₁ .is, gives amounts balanced second money₂ e₂ .is) (rounded-rises _ _ h),
       rw (exact-is amounts balanced first money₁ e₁, exact-is amounts balanced second money₂ e₂) h,
     )

@@ -29,15 +29,15 @@ pub record Gap : Type 0 where
   pub balanced : ℤ
   pub price : Price
 
-abbrev pub gap : ℤ → ℤ → ℤ → Gap
-gap amount balanced price = record { amount = amount; balanced = balanced; price = centsPerMegawattHour price }
+abbrev pub gapOf : ℤ → ℤ → ℤ → Gap
+gapOf amount balanced price = record { amount = amount; balanced = balanced; price = centsPerMegawattHour price }
 
 -- three lists with one place for each quarter
 abbrev pub gapsOf : List ℤ → List ℤ → List ℤ → List Gap
 gapsOf [] balanced prices = []
 gapsOf (a ∷ amounts) [] prices = []
 gapsOf (a ∷ amounts) (b ∷ balanced) [] = []
-gapsOf (a ∷ amounts) (b ∷ balanced) (p ∷ prices) = gap a b p ∷ gapsOf amounts balanced prices
+gapsOf (a ∷ amounts) (b ∷ balanced) (p ∷ prices) = gapOf a b p ∷ gapsOf amounts balanced prices
 
 -- up to 1,000,000,000 Wh either way
 abbrev pub isEnergy : ℤ → Bool
@@ -59,9 +59,9 @@ priceAllowed g = isPrice (g .price)
 unfoldable pub costOf : Gap → MillionthCent
 costOf g = millionths ((g .amount -ℤ g .balanced) *ℤ g .price .0)
 
-abbrev pub total : List MillionthCent → MillionthCent
-total [] = millionths (pos 0)
-total (m ∷ ms) = millionths (m .0 +ℤ total ms .0)
+abbrev pub totalCost : List MillionthCent → MillionthCent
+totalCost [] = millionths (pos 0)
+totalCost (m ∷ ms) = millionths (m .0 +ℤ totalCost ms .0)
 
 -- ---- whole cents
 
@@ -78,8 +78,8 @@ unfoldable pub moneyOf : MillionthCent → Money
 moneyOf exact = record { cents = centsOf exact; remainder = orZero (exact .0 -ℤ centsOf exact *ℤ pos 1000000) }
 
 -- the way back: 1,000,000 × cents + remainder
-unfoldable pub exactOf : Money → MillionthCent
-exactOf m = millionths (m .cents *ℤ pos 1000000 +ℤ pos (m .remainder))
+unfoldable pub exactMoney : Money → MillionthCent
+exactMoney m = millionths (m .cents *ℤ pos 1000000 +ℤ pos (m .remainder))
 
 -- ---- the call
 
@@ -88,7 +88,7 @@ unfoldable pub correctionOver : List Gap → Outcome Money
 correctionOver gaps = do
   require (leb (length gaps) 2976 && all energiesAllowed gaps) badEnergies
   require (all priceAllowed gaps) badPrice
-  given (moneyOf (total (map costOf gaps)))
+  given (moneyOf (totalCost (map costOf gaps)))
 
 -- of three lists: 22 before all else
 unfoldable pub correction : List ℤ → List ℤ → List ℤ → Outcome Money
@@ -98,5 +98,5 @@ correction amounts balanced prices = do
 
 -- what the call gives: its number, and zero for both results where it is refused
 abbrev pub correctedOf : Outcome Money → Corrected
-correctedOf (refused n) = record { number = n; money = record { cents = pos 0; remainder = 0 } }
-correctedOf (given m) = record { number = 0; money = m }
+correctedOf (refused n) = record { refusal = n; money = record { cents = pos 0; remainder = 0 } }
+correctedOf (given m) = record { refusal = 0; money = m }

@@ -18,7 +18,7 @@ use Rattle.rules.specs.Host.{hostSettle}
 use Rattle.rules.specs.Filing.{fresh, newAllowed, offsetFor, append}
 use Rattle.rules.specs.Audit.{audit, Sound}
 use Rattle.rules.specs.TakeBack.{takeBack, takeBackTimes}
-use Rattle.rules.specs.Correction.{Gap, gapsOf, Money, costOf, total, moneyOf, exactOf, correction}
+use Rattle.rules.specs.Correction.{Gap, gapsOf, Money, costOf, totalCost, moneyOf, exactMoney, correction}
 use Rattle.rules.specs.Promises.{Settles, HostSettles, Freshens, Appends, TakesBack, Delivers, HostCorrects}
 use Rattle.rules.specs.ReadBack.{Filing, fileAll, Filed}
 
@@ -152,8 +152,8 @@ TakesFilingsBack =
 
 -- 1,000,000 × cents + remainder is the exact sum of the products, and the remainder is from 0 to 999,999
 pub record CorrectsExactly (amounts balanced prices : List ℤ) (money : Money) : Type 0 where
-  pub exact : exactOf money ≡ total (map costOf (gapsOf amounts balanced prices))
-  pub below : money .remainder < 1000000
+  pub is-sum : exactMoney money ≡ totalCost (map costOf (gapsOf amounts balanced prices))
+  pub is-rest : money .remainder < 1000000
 
 abbrev pub CorrectionsExact : Type 0
 CorrectionsExact =
@@ -169,7 +169,7 @@ abbrev pub QuartersAddUp : Type 0
 QuartersAddUp =
     (amounts balanced prices : List ℤ) (money : Money) → correction amounts balanced prices ≡ given money
     → (moneys : List Money) × (map alone (gapsOf amounts balanced prices) ≡ map given moneys)
-    × (exactOf money ≡ total (map exactOf moneys)) × (money ≡ moneyOf (total (map exactOf moneys)))
+    × (exactMoney money ≡ totalCost (map exactMoney moneys)) × (money ≡ moneyOf (totalCost (map exactMoney moneys)))
 
 -- the second prices are the first, some raised, and none of them where the amount is below the balanced energy
 pub record PricesRaised (amounts balanced first second : List ℤ) : Type 0 where
@@ -181,4 +181,4 @@ abbrev pub CorrectionsRise : Type 0
 CorrectionsRise =
     (amounts balanced first second : List ℤ) (money₁ money₂ : Money) → correction amounts balanced first ≡ given money₁
     → correction amounts balanced second ≡ given money₂ → PricesRaised amounts balanced first second
-    → (money₁ .cents ≤ℤ money₂ .cents) × (exactOf money₁ .0 ≤ℤ exactOf money₂ .0)
+    → (money₁ .cents ≤ℤ money₂ .cents) × (exactMoney money₁ .0 ≤ℤ exactMoney money₂ .0)

@@ -68,6 +68,6 @@ pub struct Money {
 
 // What a correction gives: the number of its refusal or 0, and the money, which is zero where it is refused.
 pub struct Corrected {
-    pub number: u64,
+    pub refusal: u64,
     pub money: Money,
 }

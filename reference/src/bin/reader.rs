@@ -1,6 +1,7 @@
-//! Reader of redispatch archives: settle, show, fresh, append, audit, the program, delivery day and take back.
-//! Written from docs/FORMAT.md and docs/RULES.md, version 1.4, alone ("F" and "R" below, with section numbers):
-//! F 1 to 17, and of R the rules, 1 to 6, 13 and 14, and the worked numbers, 7, 8, 10, 13 and 14.
+//! Reader of redispatch archives: settle, show, fresh, append, audit, the program, delivery day, take back and
+//! correction.
+//! Written from docs/FORMAT.md and docs/RULES.md, version 1.5, alone ("F" and "R" below, with section numbers):
+//! F 1 to 18, and of R the rules, 1 to 6 and 13 to 15, and the worked numbers, 7, 8, 10 and 13 to 15.
 //!
 //! Build: rustc -O --edition 2021 reader.rs
 //! Standard input: cases, one after the other. Standard output: one line for each case.
@@ -44,6 +45,11 @@ const MOST_QUARTERS: usize = 2_976;
 const MOST_POWER: i32 = 1_000_000_000;
 const MOST_SPEED: i32 = 1_000;
 const MOST_IRRADIANCE: i32 = 2_000;
+
+// Ends of energies, in Wh, and prices, in cents per MWh, of a correction; a cent has so many millionths (F 18).
+const MOST_ENERGY: i64 = 1_000_000_000;
+const MOST_PRICE: i64 = 1_000_000;
+const MILLIONTHS: i128 = 1_000_000;
 
 // Quarter numbers of the calendar end here; a day has so many (R 13).
 const LAST_QUARTER: u64 = 3_506_400;
@@ -668,6 +674,43 @@ fn take_back(bytes: &mut [u8]) -> u32 {
     0
 }
 
+// ---------------------------------------------------------------- correction (F 18, R 15)
+
+/// Cents and remainder of the exact sum, which is split once, rounded down.
+fn correction(amounts: &[i64], balanced: &[i64], prices: &[i64]) -> Result<(i64, u64), Refusal> {
+    // 22, 20, 21, each over all places before the next.
+    let count = amounts.len();
+    if balanced.len() != count || prices.len() != count {
+        return Err(22);
+    }
+    let energy_allowed = |energy: &i64| (-MOST_ENERGY..=MOST_ENERGY).contains(energy);
+    if count > MOST_QUARTERS || !amounts.iter().chain(balanced).all(energy_allowed) {
+        return Err(20);
+    }
+    if !prices.iter().all(|price| (-MOST_PRICE..=MOST_PRICE).contains(price)) {
+        return Err(21);
+    }
+    let places = amounts.iter().zip(balanced).zip(prices);
+    let x: i128 = places.map(|((&amount, &balanced), &price)| (amount - balanced) as i128 * price as i128).sum();
+    Ok((x.div_euclid(MILLIONTHS) as i64, x.rem_euclid(MILLIONTHS) as u64))
+}
+
+/// A list of signed numbers of eight bytes.
+fn numbers_of_eight(part: &[u8]) -> Vec<i64> {
+    part.chunks_exact(8).map(|place| i64::from_le_bytes(place.try_into().unwrap())).collect()
+}
+
+/// Correction from C (F 7): the two lent numbers stay as they were if it is refused.
+fn correction_c(amounts: &[i64], balanced: &[i64], prices: &[i64], cents: &mut i64, remainder: &mut u64) -> u32 {
+    match correction(amounts, balanced, prices) {
+        Ok(results) => {
+            (*cents, *remainder) = results;
+            0
+        }
+        Err(number) => number,
+    }
+}
+
 // ---------------------------------------------------------------- the program (F 12)
 
 fn push_number(line: &mut Vec<u8>, value: i64) {
@@ -829,6 +872,16 @@ fn run_cases(input: &mut impl Read, output: &mut impl Write) -> io::Result<()> {
             8 => {
                 let number = take_back(&mut archive);
                 writeln!(output, "8 {number} {:016x}", hash(&archive))?;
+            }
+            9 => {
+                if result.len() != 16 || [&list, &archive, &record].iter().any(|part| part.len() % 8 != 0) {
+                    return Err(no_case("call 9 with parts of other lengths".into()));
+                }
+                let mut cents = i64::from_le_bytes(result[..8].try_into().unwrap());
+                let mut remainder = u64::from_le_bytes(result[8..].try_into().unwrap());
+                let [amounts, balanced, prices] = [&list, &archive, &record].map(|part| numbers_of_eight(part));
+                let number = correction_c(&amounts, &balanced, &prices, &mut cents, &mut remainder);
+                writeln!(output, "9 {number} {cents} {remainder}")?;
             }
             other => return Err(no_case(format!("no call {other}"))),
         }
@@ -1869,6 +1922,96 @@ mod self_test {
         tests.same("F 17 down to the fresh archive", (numbers, bytes), (expected, empty));
     }
 
+    /// The rows of F 18 and R 15; runs of a list are (how often, number).
+    fn corrections(tests: &mut Tests) {
+        type Runs<'a> = &'a [(usize, i64)];
+        type Row<'a> = (Runs<'a>, Runs<'a>, Runs<'a>, Result<(i64, u64), Refusal>);
+        const E: i64 = MOST_ENERGY;
+        const P: i64 = MOST_PRICE;
+        const FAR: i64 = 4_294_967_296;
+        let rows: &[Row] = &[
+            (&[(1, -1)], &[(1, 0)], &[(1, 1)], Ok((-1, 999_999))),
+            (&[(3, -1)], &[(3, 0)], &[(3, 1)], Ok((-1, 999_997))),
+            (&[(1, 1)], &[(1, 0)], &[(1, 1)], Ok((0, 1))),
+            (&[(1, 0)], &[(1, 1)], &[(1, 1)], Ok((-1, 999_999))),
+            (&[(1, -1)], &[(1, 0)], &[(1, -1)], Ok((0, 1))),
+            (&[(1, 250_000)], &[(1, 100_000)], &[(1, -8_512)], Ok((-1_277, 200_000))),
+            (&[(1, 74_999), (1, 75_000), (1, 75_000)], &[(3, 75_000)], &[(3, 8_950)], Ok((-1, 991_050))),
+            (&[(1, 1_000_000)], &[(1, 0)], &[(1, -3)], Ok((-3, 0))),
+            (&[(2, 600_000)], &[(2, 0)], &[(2, 1)], Ok((1, 200_000))),
+            (
+                &[(1, 10), (1, 1), (1, 0)],
+                &[(1, 0), (1, 5), (1, -7)],
+                &[(1, 300_000), (1, 200_000), (1, -600_000)],
+                Ok((-2, 0)),
+            ),
+            (&[], &[], &[], Ok((0, 0))),
+            (&[(1, E)], &[(1, -E)], &[(1, P)], Ok((2_000_000_000, 0))),
+            (&[(1, -E)], &[(1, E)], &[(1, P)], Ok((-2_000_000_000, 0))),
+            (&[(1, 1)], &[(1, 0)], &[(1, -P)], Ok((-1, 0))),
+            (&[(10, E), (1, 999_999_999)], &[(11, -E)], &[(10, P), (1, 999_999)], Ok((21_999_997_999, 1))),
+            (&[(19, E), (1, -1)], &[(19, -E), (1, 0)], &[(19, P), (1, 1)], Ok((37_999_999_999, 999_999))),
+            (&[(2_976, E)], &[(2_976, -E)], &[(2_976, P)], Ok((5_952_000_000_000, 0))),
+            (&[(2_976, E)], &[(2_976, -E)], &[(2_975, P), (1, 999_999)], Ok((5_951_999_998_000, 0))),
+            (&[(2_976, -E)], &[(2_976, E)], &[(2_976, P)], Ok((-5_952_000_000_000, 0))),
+            (&[(1, E + 1)], &[(1, 0)], &[(1, 1)], Err(20)),
+            (&[(1, -E - 1)], &[(1, 0)], &[(1, 1)], Err(20)),
+            (&[(1, 0)], &[(1, E + 1)], &[(1, 1)], Err(20)),
+            (&[(1, 0)], &[(1, -E - 1)], &[(1, 1)], Err(20)),
+            (&[(1, E + 1)], &[(1, E + 1)], &[(1, 1)], Err(20)),
+            (&[(1, FAR)], &[(1, 0)], &[(1, 0)], Err(20)),
+            (&[(1, 0)], &[(1, FAR)], &[(1, 0)], Err(20)),
+            (&[(1, i64::MAX)], &[(1, i64::MIN)], &[(1, 0)], Err(20)),
+            (&[(1, 0)], &[(1, 0)], &[(1, P + 1)], Err(21)),
+            (&[(1, 0)], &[(1, 0)], &[(1, -P - 1)], Err(21)),
+            (&[(1, 0)], &[(1, 0)], &[(1, FAR)], Err(21)),
+            (&[(1, 0), (1, 0)], &[(1, 0), (1, 0)], &[(1, 0), (1, P + 1)], Err(21)),
+            (&[(1, 0), (1, E + 1)], &[(1, 0), (1, 0)], &[(1, P + 1), (1, 0)], Err(20)),
+            (&[(1, 0), (1, 0)], &[(1, 0), (1, E + 1)], &[(1, P + 1), (1, 0)], Err(20)),
+            (&[(1, E + 1)], &[(1, 0)], &[(1, P + 1)], Err(20)),
+            (&[(2_977, 0)], &[(2_977, 0)], &[(2_977, 0)], Err(20)),
+            (&[(2_977, 0)], &[(2_977, 0)], &[(2_977, P + 1)], Err(20)),
+            (&[(1, 0)], &[], &[], Err(22)),
+            (&[], &[(1, 0)], &[], Err(22)),
+            (&[], &[], &[(1, 0)], Err(22)),
+            (&[(1, 0), (1, 0)], &[(1, 0)], &[(1, 0), (1, 0)], Err(22)),
+            (&[(1, 0), (1, 0)], &[(1, 0), (1, 0)], &[(1, 5)], Err(22)),
+            (&[(1, 0)], &[(1, 0), (1, 0)], &[(1, 0), (1, 0)], Err(22)),
+            (&[(1, 5)], &[], &[(1, 7)], Err(22)),
+            (&[(1, E + 1), (1, 0)], &[(1, 0)], &[(1, 0)], Err(22)),
+            (&[(1, 0)], &[], &[(1, P + 1)], Err(22)),
+            (&[(2_977, 0)], &[], &[], Err(22)),
+        ];
+        let of_rules: &[Row] = &[
+            (
+                &[(2_976, 75_000)],
+                &[(672, 74_800), (672, 75_400), (672, 75_300), (672, 74_999), (288, 0)],
+                &[(672, 8_950), (672, 12_034), (672, -1_275), (672, 1), (288, 6_001)],
+                Ok((127_846, 781_472)),
+            ),
+            (&[(672, 75_000)], &[(672, 74_800)], &[(672, 8_950)], Ok((1_202, 880_000))),
+            (&[(672, 75_000)], &[(672, 75_400)], &[(672, 12_034)], Ok((-3_235, 260_800))),
+            (&[(672, 75_000)], &[(672, 75_300)], &[(672, -1_275)], Ok((257, 40_000))),
+            (&[(672, 75_000)], &[(672, 74_999)], &[(672, 1)], Ok((0, 672))),
+            (&[(288, 75_000)], &[(288, 0)], &[(288, 6_001)], Ok((129_621, 600_000))),
+            (&[(1, 75_000)], &[(1, 74_800)], &[(1, 8_950)], Ok((1, 790_000))),
+            (&[(1, 75_000)], &[(1, 75_400)], &[(1, 12_034)], Ok((-5, 186_400))),
+            (&[(1, 74_999), (1, 75_000), (1, 75_000)], &[(3, 75_000)], &[(3, 8_950)], Ok((-1, 991_050))),
+            (&[(1, -25_000)], &[(1, -24_000)], &[(1, 9_000)], Ok((-9, 0))),
+            (&[(1, -25_000)], &[(1, -24_000)], &[(1, 9_001)], Ok((-10, 999_000))),
+        ];
+        let list = |runs: Runs| runs.iter().flat_map(|&(times, number)| vec![number; times]).collect::<Vec<i64>>();
+        for (section, rows) in [("F 18", rows), ("R 15", of_rules)] {
+            for (row, &(amounts, balanced, prices, results)) in rows.iter().enumerate() {
+                let (amounts, balanced, prices) = (list(amounts), list(balanced), list(prices));
+                let (mut cents, mut remainder) = (-77, 88);
+                let number = correction_c(&amounts, &balanced, &prices, &mut cents, &mut remainder);
+                let expected = results.map_or_else(|number| (number, -77, 88), |(cents, rest)| (0, cents, rest));
+                tests.same(&format!("{section} row {row}"), (number, cents, remainder), expected);
+            }
+        }
+    }
+
     /// One case as it stands in the input.
     fn case(call: u8, a: u64, b: u64, parts: [&[u8]; 4]) -> Vec<u8> {
         let mut bytes = vec![call];
@@ -1897,6 +2040,8 @@ mod self_test {
             case(7, 0, 0, [&[], &[0xff; 8], &[], &[]]),
             case(8, 0, 0, [&[], &[], archive, &[]]),
             case(8, 0, 0, [&[], &[], &archive[..33], &[]]),
+            case(9, 0, 0, [&(-1i64).to_le_bytes(), &[0xee; 16], &[0; 8], &1i64.to_le_bytes()]),
+            case(9, 0, 0, [&[], &[0xff; 16], &[0; 8], &[]]),
         ];
         let mut shorter = case_a(&[Number(5, 4, 0), Number(0, 4, 6)]);
         shorter[RECORD * 6..].fill(0);
@@ -1904,7 +2049,7 @@ mod self_test {
         let text = "M 1 1 3 224999 6\nQ 1 74999\nQ 2 75000\nQ 3 75000\n";
         let expected = format!(
             "1 0 {:016x} {:016x}\n2 192\n2 224\n3 1 {:016x}\n4 16 {:016x}\n5 0\n6 {:016x} {}\n7 0 9807\n7 18 {}\n\
-            8 0 {:016x}\n8 1 {:016x}\n",
+            8 0 {:016x}\n8 1 {:016x}\n9 0 -1 999999\n9 22 -1 {}\n",
             hash(&list),
             hash(&result),
             hash(&archive[..33]),
@@ -1913,7 +2058,8 @@ mod self_test {
             text.len(),
             u64::MAX,
             hash(&shorter),
-            hash(&archive[..33])
+            hash(&archive[..33]),
+            u64::MAX
         );
         let mut output = Vec::new();
         let ended = run_cases(&mut &input.concat()[..], &mut output).is_ok();
@@ -1939,6 +2085,7 @@ mod self_test {
         october(&mut tests);
         section_17(&mut tests);
         section_17_around_append(&mut tests);
+        corrections(&mut tests);
         sizes(&mut tests);
         println!("{} passed, {} failed", tests.passed, tests.failed);
         (tests.failed != 0) as i32

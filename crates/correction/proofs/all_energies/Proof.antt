@@ -15,10 +15,10 @@ use Rattle.correction.proofs.all_energies.Lts as lts
 use Rattle.correction.proofs.is_energy.Reads as is-energy-reads
 
 abbrev Inv-loop : tie.InvT-loop
-Inv-loop energies i₀ i = (i ≤ length energies) × (all isEnergy energies ≡ all isEnergy (drop i energies))
+Inv-loop energies place₀ place = (place ≤ length energies) × (all isEnergy energies ≡ all isEnergy (drop place energies))
 
 abbrev μ-loop : tie.MeasureT-loop
-μ-loop energies i₀ i = length energies - i
+μ-loop energies place₀ place = length energies - place
 
 -- src/lib.rt:66:5
 loop-holds : tie.Need-loop-holds Inv-loop μ-loop
@@ -41,11 +41,11 @@ returns : tie.Need-returns Inv-loop μ-loop
 returns c =
     let t6 = c .before .before in
     let l = t6 .before .before in
-    no-energy (l .before .args .energies .now) (l .loop .i) (omega arith) (t6 .t6 .given) (l .loop .inv .1) _ (c .before .is-energy .ensures) (not-true _ (c .if1 .taken))
+    no-energy (l .before .args .energies .now) (l .loop .place) (omega arith) (t6 .t6 .given) (l .loop .inv .1) _ (c .before .is-energy .ensures) (not-true _ (c .if1 .taken))
 
 -- src/lib.rt:70:9
-add-i : tie.Need-add-i Inv-loop μ-loop
-add-i c = search needs
+add-place : tie.Need-add-place Inv-loop μ-loop
+add-place c = search needs
 
 -- src/lib.rt:66:5
 loop-less : tie.Need-loop-less Inv-loop μ-loop
@@ -56,13 +56,13 @@ loop-again : tie.Need-loop-again Inv-loop μ-loop
 loop-again c =
     let t6 = c .before .before in
     let l = t6 .before .before in
-    (omega arith, one-energy (l .before .args .energies .now) (l .loop .i) (omega arith) (t6 .t6 .given) (l .loop .inv .1) _ (c .before .is-energy .ensures) (not-false _ (c .if1 .left)))
+    (omega arith, one-energy (l .before .args .energies .now) (l .loop .place) (omega arith) (t6 .t6 .given) (l .loop .inv .1) _ (c .before .is-energy .ensures) (not-false _ (c .if1 .left)))
 
 -- src/lib.rt:62:1
 returns-2 : tie.Need-returns-2 Inv-loop μ-loop
 returns-2 c =
     let l = c .before in
-    all-passed (l .before .args .energies .now) (l .loop .i) (l .loop .inv .0) (omega arith) (l .loop .inv .1)
+    all-passed (l .before .args .energies .now) (l .loop .place) (l .loop .inv .0) (omega arith) (l .loop .inv .1)
 
 pub all-energies-spec : {M : Type 1} → statement M
 all-energies-spec =
@@ -75,7 +75,7 @@ all-energies-spec =
     shared-slice-copy-out-t6
     is-energy-requires
     returns
-    add-i
+    add-place
     loop-less
     loop-again
     returns-2)
