@@ -14,7 +14,7 @@
 
 enum { QUARTERS = 4, RECORDS = 4 + QUARTERS };
 
-/* The balanced energy in Wh, and the ID-AEP in cents per MWh: 89.50, 91.25, -12.34 and 42.10 euros. */
+/* The balanced energy in Wh, and the ID-AEP in cents per MWh: 89.50, 91.25, -12.34 and 42.10 euros per MWh. */
 static const int64_t balanced[QUARTERS] = { 300000, 330000, 320000, 225000 };
 static const int64_t prices[QUARTERS] = { 8950, 9125, -1234, 4210 };
 

@@ -201,7 +201,7 @@ uint64_t sandegmur_show(const uint8_t *archive, size_t archive_length, uint64_t 
 uint32_t sandegmur_delivery_day(uint64_t quarter, const uint32_t *holidays, size_t holiday_count, uint64_t *day);
 
 /* The financial correction: (amount - balanced) x price / 1,000,000 in cents, added up exactly over all quarters and then rounded
- * down once, toward minus infinity. Above 0 it raises the operator's claim, below 0 it lowers it.
+ * down once, toward minus infinity. Above 0 it raises the plant operator's claim, below 0 it lowers it.
  * amounts, balanced, prices: a place for each quarter, energies in Wh and prices in cents per MWh. The list of sandegmur_settle
  *     can be handed on as it is: an array of int64_t, lent to it as bytes, holds the amounts, as many as it counts quarters.
  * cents, remainder: not NULL, and apart from the lists and each other. They get whole cents and the rest, 0 to 999,999 millionths
@@ -209,7 +209,7 @@ uint32_t sandegmur_delivery_day(uint64_t quarter, const uint32_t *holidays, size
  *     999,999, three such quarters -1 and 999,997, three empty lists 0 and 0.
  * A single quarter is a list of one. Its cents are rounded down too, so those of the quarters need not add up to those of all.
  * Refused with 22 for lists of unequal length; then 20 for more than SANDEGMUR_MOST_QUARTERS quarters, or for an energy anywhere
- * beyond SANDEGMUR_MOST_CORRECTED_ENERGY either way, also where it is sandegmur_settle's; then 21 for a price anywhere beyond
+ * beyond SANDEGMUR_MOST_CORRECTED_ENERGY either way, also for an amount that sandegmur_settle gave; then 21 for a price anywhere beyond
  * SANDEGMUR_MOST_PRICE either way. Cents and remainder then keep their numbers. */
 uint32_t sandegmur_correction(const int64_t *amounts, size_t amount_count, const int64_t *balanced, size_t balanced_count,
                               const int64_t *prices, size_t price_count, int64_t *cents, uint64_t *remainder);

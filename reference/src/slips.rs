@@ -623,6 +623,7 @@ slips! {
         CentsManyEight Correction "F 18" "more than 2,976 quarters is 8"
         CentsNine Correction "F 18" "a number out of range is 9"
         CentsAmountUncompared Correction "F 18" "only balanced energies and prices compared for 22"
+        CentsCommonFirst Correction "F 18" "20 and 21 over the places that all lists have, then 22"
         CentsMissingZero Correction "F 18" "missing places of shorter lists taken for 0"
         CentsOnePrice Correction "F 18" "a single price taken for all quarters"
         CentsNoBalanced Correction "F 18" "an empty list of balanced energies taken for zeros"
@@ -2510,6 +2511,14 @@ impl Lists {
         })
     }
 
+    /// 20, then 21, over the places that all lists have.
+    fn common(&self) -> Result<(), Refusal> {
+        let shortest = self.lengths().into_iter().min().unwrap_or(0);
+        let bad = |list| (0..shortest).any(|place| self.bad_at(list, place));
+        test(shortest <= 2_976 && !bad(0) && !bad(1), 20)?;
+        test(!bad(2), 21)
+    }
+
     fn tested(&self) -> Result<(), Refusal> {
         type Test = fn(&Lists) -> Result<(), Refusal>;
         let (unequal, many, energies, prices): (Test, Test, Test, Test) =
@@ -2521,6 +2530,7 @@ impl Lists {
             Slip::CentsUnequalLast => [many, energies, prices, unequal],
             Slip::CentsUnequalBetween => [many, energies, unequal, prices],
             Slip::CentsManyFirst => [many, unequal, energies, prices],
+            Slip::CentsCommonFirst => [Lists::common, unequal, Lists::common, Lists::common],
             _ => [unequal, many, energies, prices],
         };
         order.iter().try_for_each(|test| test(self))

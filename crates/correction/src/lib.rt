@@ -79,7 +79,7 @@ fn all_energies(energies: &[i64]) -> bool
 }
 
 // A refusal has zero for both results.
-fn refusal_of(number: u64) -> Corrected
+fn refused_with(number: u64) -> Corrected
     ensures { λ r. ⌜ r ≡ correctedOf (refused number) ⌝ }
 {
     let money = Money {
@@ -92,8 +92,8 @@ fn refusal_of(number: u64) -> Corrected
     }
 }
 
-// The first quarter of these isn't allowed: 20 where an energy is beyond its range, in it or behind it, and 21 where only a price is.
-fn number_from(amounts: &[i64], balanced: &[i64]) -> u64
+// Asked where a quarter isn't allowed, of the energies from it on: 20 where one of these is beyond its range, else 21, for the price.
+fn refusal_number(amounts: &[i64], balanced: &[i64]) -> u64
     ensures { λ r. ⌜ r ≡ cond (all isEnergy (now (amounts .entry)) && all isEnergy (now (balanced .entry))) badPrice badEnergies ⌝ }
 {
     if all_energies(amounts) && all_energies(balanced) {
@@ -108,7 +108,7 @@ fn correction_over(amounts: &[i64], balanced: &[i64], prices: &[i64]) -> Correct
     ensures { λ r. ⌜ r ≡ correctedOf (correctionOver (gapsOf (now (amounts .entry)) (now (balanced .entry)) (now (prices .entry)))) ⌝ }
 {
     if 2976 < amounts.len() {
-        return refusal_of(refusal::BAD_ENERGIES);
+        return refused_with(refusal::BAD_ENERGIES);
     }
     let mut exact: i64 = 0;
     let mut i = 0;
@@ -117,7 +117,7 @@ fn correction_over(amounts: &[i64], balanced: &[i64], prices: &[i64]) -> Correct
         let balance = WattHour(balanced[i]);
         let price = Price(prices[i]);
         if !is_allowed(amount, balance, price) {
-            return refusal_of(number_from(&amounts[i..], &balanced[i..]));
+            return refused_with(refusal_number(&amounts[i..], &balanced[i..]));
         }
         exact += cost_of(amount, balance, price).0;
         i += 1;
@@ -131,7 +131,7 @@ pub fn correction(amounts: &[i64], balanced: &[i64], prices: &[i64]) -> Correcte
     ensures { λ r. ⌜ Corrects (now (amounts .entry)) (now (balanced .entry)) (now (prices .entry)) r ⌝ }
 {
     if balanced.len() != amounts.len() || prices.len() != amounts.len() {
-        return refusal_of(refusal::UNEQUAL_LISTS);
+        return refused_with(refusal::UNEQUAL_LISTS);
     }
     correction_over(amounts, balanced, prices)
 }

@@ -164,8 +164,8 @@ pub extern "C" fn sandegmur_correction(
         return corrected.refusal as u32;
     }
     let money = corrected.money;
-    let whole = money.cents;
-    *cents = whole;
+    let whole_cents = money.cents;
+    *cents = whole_cents;
     *remainder = money.remainder;
     0
 }

@@ -2,22 +2,22 @@
 use mathlib.Core.Path.{_≡_, refl, sym, _∙_, ap, ap₂, subst}
 use mathlib.Core.Bool.{Bool, true, false, _&&_}
 use mathlib.Core.List.{List, [], _∷_, map}
-use Prim.Native.Nat.{ℕ, suc, _+_, _*_, _-_, _/_, _%_, _≤_, _<_}
+use Prim.Native.Nat.{ℕ, suc, _*_, _-_, _/_, _%_, _≤_, _<_}
 use native.Mathlib.Nat.{mul-le-mul}
 use native.Mathlib.Omega.{arith}
-use borrow.Author.Tests.{eqb-true, leb-true}
+use borrow.Author.Tests.{eqb-true}
 use lib.Dec.{eqb, leb}
-use lib.IntN.{ℤ, pos, negsuc, negℤ, _+ℤ_, _-ℤ_, _*ℤ_, *ℤ-negsuc, *ℤ-comm, +ℤ-idr}
+use lib.IntN.{ℤ, pos, negsuc, _+ℤ_, _-ℤ_, _*ℤ_, *ℤ-negsuc, *ℤ-comm, +ℤ-idr}
 use lib.Signed.{_≤ℤ_, _<ℤ_, ≤ℤ-refl, ltZ, ltZ-yes, ltZ-no}
-use lib.ListN.{length, getD}
-use Rattle.rules.specs.Outcome.{Outcome, given, _>>_, require}
+use lib.ListN.{length}
+use Rattle.rules.specs.Outcome.{given, _>>_, require}
 use Rattle.rules.specs.Refusals.{badEnergies, badPrice, unequalLists}
 use Rattle.rules.specs.Numbers.{orZero, all}
-use Rattle.rules.specs.Correction.{Price, MillionthCent, Money, Gap, gapOf, gapsOf, isEnergy, isPrice, energiesAllowed, priceAllowed}
-use Rattle.rules.specs.Correction.{millionths, costOf, totalCost, roundedDown, centsOf, moneyOf, exactMoney, correctionOver, correction}
-use Rattle.rules.specs.Demands.{CorrectsExactly, CorrectionsExact, alone, QuartersAddUp, PricesRaised, CorrectionsRise}
+use Rattle.rules.specs.Correction.{MillionthCent, Money, Gap, gapOf, gapsOf, isEnergy, energiesAllowed, priceAllowed}
+use Rattle.rules.specs.Correction.{millionths, costOf, totalCost, roundedDown, moneyOf, exactMoney, correctionOver, correction}
+use Rattle.rules.specs.Demands.{CorrectionsExact, alone, QuartersAddUp, PricesRaised, CorrectionsRise}
 use Rattle.rules.proofs.Inversion.{given-inj}
-use Rattle.rules.proofs.Ints.{under, parts-eq, parts-le, le-parts, orZero-neg, under-neg, orZero-minus, under-minus, orZero-times, under-times, add-parts, ≤ℤ-trans, times-mono}
+use Rattle.rules.proofs.Ints.{under, parts-eq, parts-le, le-parts, orZero-neg, under-neg, orZero-minus, under-minus, orZero-times, under-times, add-parts, times-mono}
 use Rattle.rules.proofs.Ranges.{within-signed}
 use Rattle.rules.proofs.Sound.{required, both}
 
@@ -44,7 +44,7 @@ pub money-negative : (n : ℕ) → moneyOf (millionths (negsuc n)) ≡ record { 
 unfolding moneyOf
 money-negative n = rw (left-negative n)
 
-pub split-below : (exact : MillionthCent) → moneyOf exact .remainder < 1000000
+split-below : (exact : MillionthCent) → moneyOf exact .remainder < 1000000
 unfolding moneyOf
 split-below exact = go (exact .0)
   where
@@ -52,17 +52,17 @@ split-below exact = go (exact .0)
     go (pos n) = omega (arith, left-natural n)
     go (negsuc n) = omega (arith, left-negative n)
 
-back : (z : ℤ) → roundedDown z 1000000 *ℤ pos 1000000 +ℤ pos (left z) ≡ z
-back (pos n) = ap pos (omega (arith, left-natural n))
-back (negsuc n) =
+split-back : (z : ℤ) → roundedDown z 1000000 *ℤ pos 1000000 +ℤ pos (left z) ≡ z
+split-back (pos n) = ap pos (omega (arith, left-natural n))
+split-back (negsuc n) =
     let w = negsuc (n / 1000000) *ℤ pos 1000000 in
     let l = pos (left (negsuc n)) in
     parts-eq (w +ℤ l) (negsuc n)
     (omega (arith, add-parts w l, left-negative n, orZero-times (negsuc (n / 1000000)) 1000000, under-times (negsuc (n / 1000000)) 1000000))
 
-pub split-exact : (exact : MillionthCent) → exactMoney (moneyOf exact) ≡ exact
+split-exact : (exact : MillionthCent) → exactMoney (moneyOf exact) ≡ exact
 unfolding moneyOf exactMoney
-split-exact exact = ap millionths (back (exact .0))
+split-exact exact = ap millionths (split-back (exact .0))
 
 -- ---- lists that aren't refused
 
@@ -133,12 +133,9 @@ all-alone (g ∷ gs) h k =
 singles-exact : (gaps : List Gap) → totalCost (map exactMoney (map single gaps)) ≡ totalCost (map costOf gaps)
 singles-exact [] = refl
 singles-exact (g ∷ gs) =
-    let one : exactMoney (single g) .0 ≡ costOf g .0 = ap (λ m. m .0) (split-exact (totalCost (map costOf (g ∷ [])))) ∙ plus-none (costOf g .0) in
+    let one : exactMoney (single g) .0 ≡ costOf g .0 = ap (λ m. m .0) (split-exact (totalCost (map costOf (g ∷ [])))) ∙ +ℤ-idr (costOf g .0) in
     let rest : totalCost (map exactMoney (map single gs)) .0 ≡ totalCost (map costOf gs) .0 = ap (λ m. m .0) (singles-exact gs) in
     ap millionths (ap₂ _+ℤ_ one rest)
-  where
-    plus-none : (z : ℤ) → z +ℤ pos 0 ≡ z
-    plus-none z = +ℤ-idr z
 
 pub quarters-add-up : QuartersAddUp
 quarters-add-up amounts balanced prices money e =

@@ -15,11 +15,22 @@ pub use Rattle.rules.specs.declared.MillionthCent.{MillionthCent}
 pub use Rattle.rules.specs.declared.Money.{Money}
 pub use Rattle.rules.specs.declared.Corrected.{Corrected}
 
+-- a number as a price, and as money
 abbrev pub centsPerMegawattHour : ℤ → Price
 centsPerMegawattHour z = record { 0 = z }
 
 abbrev pub millionths : ℤ → MillionthCent
 millionths z = record { 0 = z }
+
+-- ---- ranges
+
+-- what 20 tests of an amount and of a balanced energy: up to 1,000,000,000 Wh either way
+abbrev pub isEnergy : ℤ → Bool
+isEnergy = within (negℤ (pos 1000000000)) (pos 1000000000)
+
+-- what 21 tests: up to 1,000,000 cents per MWh either way
+abbrev pub isPrice : Price → Bool
+isPrice price = within (negℤ (pos 1000000)) (pos 1000000) (price .0)
 
 -- ---- quarters
 
@@ -39,14 +50,6 @@ gapsOf (a ∷ amounts) [] prices = []
 gapsOf (a ∷ amounts) (b ∷ balanced) [] = []
 gapsOf (a ∷ amounts) (b ∷ balanced) (p ∷ prices) = gapOf a b p ∷ gapsOf amounts balanced prices
 
--- up to 1,000,000,000 Wh either way
-abbrev pub isEnergy : ℤ → Bool
-isEnergy = within (negℤ (pos 1000000000)) (pos 1000000000)
-
--- up to 1,000,000 cents per MWh either way
-abbrev pub isPrice : Price → Bool
-isPrice price = within (negℤ (pos 1000000)) (pos 1000000) (price .0)
-
 abbrev pub energiesAllowed : Gap → Bool
 energiesAllowed g = isEnergy (g .amount) && isEnergy (g .balanced)
 
@@ -59,21 +62,23 @@ priceAllowed g = isPrice (g .price)
 unfoldable pub costOf : Gap → MillionthCent
 costOf g = millionths ((g .amount -ℤ g .balanced) *ℤ g .price .0)
 
+-- the exact products added, none of them rounded; none at all is 0
 abbrev pub totalCost : List MillionthCent → MillionthCent
 totalCost [] = millionths (pos 0)
 totalCost (m ∷ ms) = millionths (m .0 +ℤ totalCost ms .0)
 
 -- ---- whole cents
 
--- over a number, rounded down toward minus infinity
+-- over a number, rounded down toward minus infinity: negsuc n is -(n + 1), which is -(n / d + 1) over d
 abbrev pub roundedDown : ℤ → ℕ → ℤ
 roundedDown (pos n) d = pos (n / d)
 roundedDown (negsuc n) d = negsuc (n / d)
 
+-- whole cents
 abbrev pub centsOf : MillionthCent → ℤ
 centsOf exact = roundedDown (exact .0) 1000000
 
--- the exact sum split once: whole cents, rounded down, and what is left of it
+-- the exact sum split once: whole cents, rounded down, and what is left, which is never below zero (`CorrectionsExact` of Demands.antt)
 unfoldable pub moneyOf : MillionthCent → Money
 moneyOf exact = record { cents = centsOf exact; remainder = orZero (exact .0 -ℤ centsOf exact *ℤ pos 1000000) }
 
@@ -83,14 +88,14 @@ exactMoney m = millionths (m .cents *ℤ pos 1000000 +ℤ pos (m .remainder))
 
 -- ---- the call
 
--- 20, then 21, each over all quarters; the sum is formed from the exact products and split once
+-- 20, then 21, each over all quarters; the sum is formed from the exact products and split once (02, 5)
 unfoldable pub correctionOver : List Gap → Outcome Money
 correctionOver gaps = do
   require (leb (length gaps) 2976 && all energiesAllowed gaps) badEnergies
   require (all priceAllowed gaps) badPrice
   given (moneyOf (totalCost (map costOf gaps)))
 
--- of three lists: 22 before all else
+-- of three lists: 22 before all else (02, 5)
 unfoldable pub correction : List ℤ → List ℤ → List ℤ → Outcome Money
 correction amounts balanced prices = do
   require (eqb (length balanced) (length amounts) && eqb (length prices) (length amounts)) unequalLists

@@ -95,6 +95,11 @@ corrections =
     ∷ (correcting (tooMuch ∷ []) (pos 0 ∷ []) [], refusesLists 22)
     ∷ (correcting (pos 0 ∷ []) [] (tooDear ∷ []), refusesLists 22)
     ∷ (correcting (replicate 2977 (pos 0)) [] [], refusesLists 22)
+    -- the bad numbers in places that all three lists have
+    ∷ (correcting (tooMuch ∷ pos 0 ∷ []) (pos 0 ∷ []) (pos 0 ∷ []), refusesLists 22)
+    ∷ (correcting (pos 0 ∷ pos 0 ∷ []) (pos 0 ∷ []) (tooDear ∷ pos 0 ∷ []), refusesLists 22)
+    ∷ (correcting (tooMuch ∷ pos 0 ∷ []) (pos 0 ∷ []) (tooDear ∷ pos 0 ∷ []), refusesLists 22)
+    ∷ (correcting (replicate 2977 (pos 0)) (replicate 2977 (pos 0)) (replicate 2978 (pos 0)), refusesLists 22)
     -- a price raised by 1 cent where the amount is above the balanced energy
     ∷ (correcting (pos 5 ∷ pos 0 ∷ []) (pos 2 ∷ pos 9 ∷ []) (pos 3 ∷ pos 1 ∷ []), givesMoney (pos 0) 0)
     ∷ (correcting (pos 5 ∷ pos 0 ∷ []) (pos 2 ∷ pos 9 ∷ []) (pos 4 ∷ pos 1 ∷ []), givesMoney (pos 0) 3)

@@ -10,9 +10,6 @@ use Rattle.rules.specs.Correction.{isEnergy}
 use Rattle.correction.proofs.Passes.{no-energy, one-energy, all-passed}
 use Rattle.correction.proofs.all_energies.Statement.{statement}
 use Rattle.correction.proofs.all_energies.Tie as tie
-use Rattle.correction.proofs.all_energies.Reads as reads
-use Rattle.correction.proofs.all_energies.Lts as lts
-use Rattle.correction.proofs.is_energy.Reads as is-energy-reads
 
 abbrev Inv-loop : tie.InvT-loop
 Inv-loop energies place₀ place = (place ≤ length energies) × (all isEnergy energies ≡ all isEnergy (drop place energies))
@@ -20,45 +17,36 @@ Inv-loop energies place₀ place = (place ≤ length energies) × (all isEnergy 
 abbrev μ-loop : tie.MeasureT-loop
 μ-loop energies place₀ place = length energies - place
 
--- src/lib.rt:66:5
 loop-holds : tie.Need-loop-holds Inv-loop μ-loop
 loop-holds c = (omega arith, refl)
 
--- src/lib.rt:67:32
 mul-t3 : tie.Need-mul-t3 Inv-loop μ-loop
 mul-t3 c = search needs
 
--- src/lib.rt:67:32
 shared-slice-copy-out-t6 : tie.Need-shared-slice-copy-out-t6 Inv-loop μ-loop
 shared-slice-copy-out-t6 c = search needs
 
--- src/lib.rt:67:13
 is-energy-requires : tie.Need-is-energy-requires Inv-loop μ-loop
 is-energy-requires c κs = search needs
 
--- src/lib.rt:68:13
 returns : tie.Need-returns Inv-loop μ-loop
 returns c =
     let t6 = c .before .before in
     let l = t6 .before .before in
     no-energy (l .before .args .energies .now) (l .loop .place) (omega arith) (t6 .t6 .given) (l .loop .inv .1) _ (c .before .is-energy .ensures) (not-true _ (c .if1 .taken))
 
--- src/lib.rt:70:9
 add-place : tie.Need-add-place Inv-loop μ-loop
 add-place c = search needs
 
--- src/lib.rt:66:5
 loop-less : tie.Need-loop-less Inv-loop μ-loop
 loop-less c = search needs
 
--- src/lib.rt:66:5
 loop-again : tie.Need-loop-again Inv-loop μ-loop
 loop-again c =
     let t6 = c .before .before in
     let l = t6 .before .before in
     (omega arith, one-energy (l .before .args .energies .now) (l .loop .place) (omega arith) (t6 .t6 .given) (l .loop .inv .1) _ (c .before .is-energy .ensures) (not-false _ (c .if1 .left)))
 
--- src/lib.rt:62:1
 returns-2 : tie.Need-returns-2 Inv-loop μ-loop
 returns-2 c =
     let l = c .before in

@@ -6,15 +6,15 @@ use Rattle.correction.proofs.Passes.{balanced-differ, prices-differ, as
 use Rattle.correction.proofs.correction.Statement.{statement}
 use Rattle.correction.proofs.correction.Tie as tie
 
-refusal-of-requires : tie.Need-refusal-of-requires
-refusal-of-requires c κs = search needs
+refused-with-requires : tie.Need-refused-with-requires
+refused-with-requires c κs = search needs
 
 returns : tie.Need-returns
 returns c =
     let a = c .before .before .args in
     ⊎-elim
-    (λ w. balanced-differ (a .amounts .now) (a .balanced .now) (a .prices .now) _ (ne-eqb _ _ (w .taken)) (c .refusal-of .ensures))
-    (λ w. prices-differ (a .amounts .now) (a .balanced .now) (a .prices .now) _ (eq-eqb _ _ (w .0 .left)) (not-true _ (w .1 .taken)) (c .refusal-of .ensures))
+    (λ w. balanced-differ (a .amounts .now) (a .balanced .now) (a .prices .now) _ (ne-eqb _ _ (w .taken)) (c .refused-with .ensures))
+    (λ w. prices-differ (a .amounts .now) (a .balanced .now) (a .prices .now) _ (eq-eqb _ _ (w .0 .left)) (not-true _ (w .1 .taken)) (c .refused-with .ensures))
     (c .before .if1 .came)
 
 correction-over-requires : tie.Need-correction-over-requires
@@ -29,4 +29,4 @@ returns-2 c =
 
 pub correction-spec : {M : Type 1} → statement M
 correction-spec =
-    tie.close (tie.spec refusal-of-requires returns correction-over-requires returns-2)
+    tie.close (tie.spec refused-with-requires returns correction-over-requires returns-2)

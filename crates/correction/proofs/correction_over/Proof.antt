@@ -16,13 +16,13 @@ Inv-loop amounts balanced prices exact₀ i₀ exact i = Summing amounts balance
 abbrev μ-loop : tie.MeasureT-loop
 μ-loop amounts balanced prices exact₀ i₀ exact i = length amounts - i
 
-refusal-of-requires : tie.Need-refusal-of-requires Inv-loop μ-loop
-refusal-of-requires c κs = search needs
+refused-with-requires : tie.Need-refused-with-requires Inv-loop μ-loop
+refused-with-requires c κs = search needs
 
 returns : tie.Need-returns Inv-loop μ-loop
 returns c =
     let entry = c .before .before in
-    let a = entry .args in many-refused (a .amounts .now) (a .balanced .now) (a .prices .now) (entry .pre .0) (entry .pre .1) (omega arith) _ (c .refusal-of .ensures)
+    let a = entry .args in many-refused (a .amounts .now) (a .balanced .now) (a .prices .now) (entry .pre .0) (entry .pre .1) (omega arith) _ (c .refused-with .ensures)
 
 loop-holds : tie.Need-loop-holds Inv-loop μ-loop
 loop-holds c =
@@ -50,42 +50,42 @@ shared-slice-copy-out-t15-3 c = omega arith
 is-allowed-requires : tie.Need-is-allowed-requires Inv-loop μ-loop
 is-allowed-requires c κs = search needs
 
-mul-number-from : tie.Need-mul-number-from Inv-loop μ-loop
-mul-number-from c = omega arith
+mul-refusal-number : tie.Need-mul-refusal-number Inv-loop μ-loop
+mul-refusal-number c = omega arith
 
-sub-number-from : tie.Need-sub-number-from Inv-loop μ-loop
-sub-number-from c = omega arith
+sub-refusal-number : tie.Need-sub-refusal-number Inv-loop μ-loop
+sub-refusal-number c = omega arith
 
-part-number-from-start : tie.Need-part-number-from-start Inv-loop μ-loop
-part-number-from-start c = search needs
+part-refusal-number-start : tie.Need-part-refusal-number-start Inv-loop μ-loop
+part-refusal-number-start c = search needs
 
-part-number-from-end : tie.Need-part-number-from-end Inv-loop μ-loop
-part-number-from-end c = search needs
+part-refusal-number-end : tie.Need-part-refusal-number-end Inv-loop μ-loop
+part-refusal-number-end c = search needs
 
-mul-number-from-2 : tie.Need-mul-number-from-2 Inv-loop μ-loop
-mul-number-from-2 c = omega arith
+mul-refusal-number-2 : tie.Need-mul-refusal-number-2 Inv-loop μ-loop
+mul-refusal-number-2 c = omega arith
 
-sub-number-from-2 : tie.Need-sub-number-from-2 Inv-loop μ-loop
-sub-number-from-2 c = omega arith
+sub-refusal-number-2 : tie.Need-sub-refusal-number-2 Inv-loop μ-loop
+sub-refusal-number-2 c = omega arith
 
-part-number-from-start-2 : tie.Need-part-number-from-start-2 Inv-loop μ-loop
-part-number-from-start-2 c = search needs
+part-refusal-number-start-2 : tie.Need-part-refusal-number-start-2 Inv-loop μ-loop
+part-refusal-number-start-2 c = search needs
 
-part-number-from-end-2 : tie.Need-part-number-from-end-2 Inv-loop μ-loop
-part-number-from-end-2 c = search needs
+part-refusal-number-end-2 : tie.Need-part-refusal-number-end-2 Inv-loop μ-loop
+part-refusal-number-end-2 c = search needs
 
-number-from-requires : tie.Need-number-from-requires Inv-loop μ-loop
-number-from-requires c κs = search needs
+refusal-number-requires : tie.Need-refusal-number-requires Inv-loop μ-loop
+refusal-number-requires c κs = search needs
 
-refusal-of-requires-2 : tie.Need-refusal-of-requires-2 Inv-loop μ-loop
-refusal-of-requires-2 c κs = search needs
+refused-with-requires-2 : tie.Need-refused-with-requires-2 Inv-loop μ-loop
+refused-with-requires-2 c κs = search needs
 
 returns-2 : tie.Need-returns-2 Inv-loop μ-loop
 returns-2 c =
     let l = c .before .before .before .before .before .before .before .before .before .before in
     let entry = l .before .before in
     let a = entry .args in
-    sum-stops (a .amounts .now) (a .balanced .now) (a .prices .now) (entry .pre .0) (entry .pre .1) (toZ w64 (l .loop .exact)) (l .loop .i) (l .loop .inv) (omega arith) (c .before .before .before .before .before .before .before .before .t15 .given) (c .before .before .before .before .before .before .before .t152 .given) (c .before .before .before .before .before .before .t153 .given) _ (c .before .before .before .before .before .is-allowed .ensures) (not-true _ (c .before .before .before .before .if2 .taken)) _ (c .before .number-from .ensures) _ (c .refusal-of2 .ensures)
+    sum-stops (a .amounts .now) (a .balanced .now) (a .prices .now) (entry .pre .0) (entry .pre .1) (toZ w64 (l .loop .exact)) (l .loop .i) (l .loop .inv) (omega arith) (c .before .before .before .before .before .before .before .before .t15 .given) (c .before .before .before .before .before .before .before .t152 .given) (c .before .before .before .before .before .before .t153 .given) _ (c .before .before .before .before .before .is-allowed .ensures) (not-true _ (c .before .before .before .before .if2 .taken)) _ (c .before .refusal-number .ensures) _ (c .refused-with2 .ensures)
 
 cost-of-requires : tie.Need-cost-of-requires Inv-loop μ-loop
 cost-of-requires c κs =
@@ -130,7 +130,7 @@ correction-over-spec =
     (tie.spec
     Inv-loop
     μ-loop
-    refusal-of-requires
+    refused-with-requires
     returns
     loop-holds
     mul-t12
@@ -140,16 +140,16 @@ correction-over-spec =
     mul-t12-3
     shared-slice-copy-out-t15-3
     is-allowed-requires
-    mul-number-from
-    sub-number-from
-    part-number-from-start
-    part-number-from-end
-    mul-number-from-2
-    sub-number-from-2
-    part-number-from-start-2
-    part-number-from-end-2
-    number-from-requires
-    refusal-of-requires-2
+    mul-refusal-number
+    sub-refusal-number
+    part-refusal-number-start
+    part-refusal-number-end
+    mul-refusal-number-2
+    sub-refusal-number-2
+    part-refusal-number-start-2
+    part-refusal-number-end-2
+    refusal-number-requires
+    refused-with-requires-2
     returns-2
     cost-of-requires
     add-exact

@@ -1,12 +1,12 @@
--- `correction::number_from` meets its contract.
+-- `correction::refusal_number` meets its contract.
 use mathlib.Core.Path.{sym, _∙_}
 use mathlib.Core.Logic.{⊎-elim}
 use borrow.Author.Needs.{needs}
 use Rattle.rules.specs.Numbers.{all}
 use Rattle.rules.specs.Correction.{isEnergy}
 use Rattle.correction.proofs.Passes.{energy-of-first, energy-of-second}
-use Rattle.correction.proofs.number_from.Statement.{statement}
-use Rattle.correction.proofs.number_from.Tie as tie
+use Rattle.correction.proofs.refusal_number.Statement.{statement}
+use Rattle.correction.proofs.refusal_number.Tie as tie
 
 all-energies-requires : tie.Need-all-energies-requires
 all-energies-requires c κs = search needs
@@ -25,6 +25,6 @@ returns-2 c =
     (λ w. energy-of-first _ (all isEnergy (a .balanced .now)) (sym (c .before .all-energies .ensures) ∙ w .left))
     (c .if1 .came)
 
-pub number-from-spec : {M : Type 1} → statement M
-number-from-spec =
+pub refusal-number-spec : {M : Type 1} → statement M
+refusal-number-spec =
     tie.close (tie.spec all-energies-requires all-energies-requires-2 returns returns-2)
