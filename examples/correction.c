@@ -100,6 +100,8 @@ int main(void)
 
     /* The last price isn't known yet. Cents and remainder keep what they have. */
     number = sandegmur_correction(amounts, count, balanced, QUARTERS, prices, QUARTERS - 1, &cents, &remainder);
+    if (number == SANDEGMUR_NOT_REFUSED)
+        return 1;
     printf("a price short: refused with %" PRIu32 ", %s\n", number, sandegmur_refusal_text(number));
     return 0;
 }

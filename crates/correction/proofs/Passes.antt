@@ -12,9 +12,6 @@ use lib.IntN.{ℤ, pos, _+ℤ_, +ℤ-idl, +ℤ-idr, +ℤ-assoc}
 use lib.Signed.{mag}
 use lib.ListN.{length, getD, take, drop, length-drop}
 use lib.Seq.{drop-cons, drop-length}
-use mir.Syntax.{w64}
-use mir.Val.{SFits}
-use mir.Facts.{toZ-ofZ}
 use Rattle.rules.specs.declared.MillionthCent.{MillionthCent}
 use Rattle.rules.specs.declared.Money.{Money}
 use Rattle.rules.specs.declared.Corrected.{Corrected}
@@ -210,21 +207,18 @@ module _ (amounts balanced prices : List ℤ) (b : length balanced ≡ length am
                 left = s .left ∙ ap (rest exact) from-here ∙ goes exact at behind (tests .0) (tests .1);
               }
 
-          -- the cost of the quarter, added as the code adds it
+          -- the cost of the quarter added
           module _ (few : length amounts ≤ 2976) (cost : MillionthCent) (is : cost ≡ costOf read) where
-            cost-is-at : cost .0 ≡ costOf at .0
-            cost-is-at = ap (λ (m : MillionthCent). m .0) (is ∙ ap costOf read-is)
+            cost-is : cost .0 ≡ costOf at .0
+            cost-is = ap (λ (m : MillionthCent). m .0) (is ∙ ap costOf read-is)
 
-            cost-back : held (cost .0) ≡ costOf at .0
-            cost-back = ap held cost-is-at ∙ back (costOf at .0) (in-range (costOf at .0) 2000000000000000 (cost-small at (tests .0) (tests .1)) (omega arith))
+            pub sum-fits : mag (exact +ℤ cost .0) < 2 ^ 63
+            sum-fits =
+                subst (λ (z : ℤ). mag (exact +ℤ z) < 2 ^ 63) (sym cost-is)
+                (in-range (exact +ℤ costOf at .0) 5952000000000000000 (omega (arith, goes-on .small), omega (arith, goes-on .small)) (omega arith))
 
-            pub sum-fits : SFits w64 (exact +ℤ held (cost .0))
-            sum-fits = subst (λ (z : ℤ). SFits w64 (exact +ℤ z)) (sym cost-back) (record {
-              sfits = in-range (exact +ℤ costOf at .0) 5952000000000000000 (omega (arith, goes-on .small), omega (arith, goes-on .small)) (omega arith);
-            })
-
-            pub sum-goes : Summing amounts balanced prices (held (exact +ℤ held (cost .0))) (i + 1)
-            sum-goes = subst (λ (z : ℤ). Summing amounts balanced prices z (i + 1)) (sym (toZ-ofZ sum-fits ∙ ap (λ (z : ℤ). exact +ℤ z) cost-back)) goes-on
+            pub sum-goes : (later : ℤ) → later ≡ exact +ℤ cost .0 → Summing amounts balanced prices later (i + 1)
+            sum-goes later e = subst (λ (z : ℤ). Summing amounts balanced prices z (i + 1)) (sym (e ∙ ap (λ (z : ℤ). exact +ℤ z) cost-is)) goes-on
 
 -- ---- 22 before all else
 

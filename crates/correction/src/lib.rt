@@ -1,7 +1,10 @@
 // The financial correction (document 02, 5): the gaps between amounts and balanced energies at their prices, in cents.
 ghost use mathlib.Core.Path.{_≡_};
 ghost use mathlib.Core.Bool.{true, cond, _&&_};
+ghost use Prim.Native.Nat.{_<_, _^_};
+ghost use lib.IntN.{_+ℤ_};
 ghost use lib.ListN.{length};
+ghost use lib.Signed.{mag};
 ghost use Rattle.rules.specs.Outcome.{refused};
 ghost use Rattle.rules.specs.Refusals.{badEnergies, badPrice};
 ghost use Rattle.rules.specs.Numbers.{all};
@@ -41,6 +44,13 @@ fn cost_of(amount: WattHour, balanced: WattHour, price: Price) -> MillionthCent
     ensures { λ r. ⌜ r ≡ costOf (gapOf (amount .0) (balanced .0) (price .0)) ⌝ }
 {
     MillionthCent((amount.0 - balanced.0) * price.0)
+}
+
+fn plus(a: MillionthCent, b: MillionthCent) -> MillionthCent
+    requires { ⌜ mag (a .0 +ℤ b .0) < 2 ^ 63 ⌝ }
+    ensures { λ r. ⌜ r .0 ≡ a .0 +ℤ b .0 ⌝ }
+{
+    MillionthCent(a.0 + b.0)
 }
 
 // ---- whole cents
@@ -110,7 +120,7 @@ fn correction_over(amounts: &[i64], balanced: &[i64], prices: &[i64]) -> Correct
     if 2976 < amounts.len() {
         return refused_with(refusal::BAD_ENERGIES);
     }
-    let mut exact: i64 = 0;
+    let mut exact = MillionthCent(0);
     let mut i = 0;
     while i < amounts.len() {
         let amount = WattHour(amounts[i]);
@@ -119,10 +129,10 @@ fn correction_over(amounts: &[i64], balanced: &[i64], prices: &[i64]) -> Correct
         if !is_allowed(amount, balance, price) {
             return refused_with(refusal_number(&amounts[i..], &balanced[i..]));
         }
-        exact += cost_of(amount, balance, price).0;
+        exact = plus(exact, cost_of(amount, balance, price));
         i += 1;
     }
-    let money = money_of(MillionthCent(exact));
+    let money = money_of(exact);
     Corrected { refusal: 0, money }
 }
 

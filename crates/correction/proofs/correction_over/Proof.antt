@@ -4,14 +4,12 @@ use native.Mathlib.Omega.{arith}
 use borrow.Author.Needs.{needs}
 use borrow.Author.Tests.{not-true, not-false}
 use lib.ListN.{length}
-use mir.Syntax.{w64}
-use mir.Val.{toZ}
 use Rattle.correction.proofs.Passes.{Summing, many-refused, sum-begins, sum-ends, sum-stops, read-allowed, sum-fits, sum-goes}
 use Rattle.correction.proofs.correction_over.Statement.{statement}
 use Rattle.correction.proofs.correction_over.Tie as tie
 
 abbrev Inv-loop : tie.InvT-loop
-Inv-loop amounts balanced prices exact₀ i₀ exact i = Summing amounts balanced prices (toZ w64 exact) i
+Inv-loop amounts balanced prices exact₀ i₀ exact i = Summing amounts balanced prices (exact .0) i
 
 abbrev μ-loop : tie.MeasureT-loop
 μ-loop amounts balanced prices exact₀ i₀ exact i = length amounts - i
@@ -85,21 +83,21 @@ returns-2 c =
     let l = c .before .before .before .before .before .before .before .before .before .before in
     let entry = l .before .before in
     let a = entry .args in
-    sum-stops (a .amounts .now) (a .balanced .now) (a .prices .now) (entry .pre .0) (entry .pre .1) (toZ w64 (l .loop .exact)) (l .loop .i) (l .loop .inv) (omega arith) (c .before .before .before .before .before .before .before .before .t15 .given) (c .before .before .before .before .before .before .before .t152 .given) (c .before .before .before .before .before .before .t153 .given) _ (c .before .before .before .before .before .is-allowed .ensures) (not-true _ (c .before .before .before .before .if2 .taken)) _ (c .before .refusal-number .ensures) _ (c .refused-with2 .ensures)
+    sum-stops (a .amounts .now) (a .balanced .now) (a .prices .now) (entry .pre .0) (entry .pre .1) (l .loop .exact .0) (l .loop .i) (l .loop .inv) (omega arith) (c .before .before .before .before .before .before .before .before .t15 .given) (c .before .before .before .before .before .before .before .t152 .given) (c .before .before .before .before .before .before .t153 .given) _ (c .before .before .before .before .before .is-allowed .ensures) (not-true _ (c .before .before .before .before .if2 .taken)) _ (c .before .refusal-number .ensures) _ (c .refused-with2 .ensures)
 
 cost-of-requires : tie.Need-cost-of-requires Inv-loop μ-loop
 cost-of-requires c κs =
     let l = c .before .before .before .before .before .before in
     let entry = l .before .before in
     let a = entry .args in
-    read-allowed (a .amounts .now) (a .balanced .now) (a .prices .now) (entry .pre .0) (entry .pre .1) (toZ w64 (l .loop .exact)) (l .loop .i) (l .loop .inv) (omega arith) (c .before .before .before .before .t15 .given) (c .before .before .before .t152 .given) (c .before .before .t153 .given) _ (c .before .is-allowed .ensures) (not-false _ (c .if2 .left))
+    read-allowed (a .amounts .now) (a .balanced .now) (a .prices .now) (entry .pre .0) (entry .pre .1) (l .loop .exact .0) (l .loop .i) (l .loop .inv) (omega arith) (c .before .before .before .before .t15 .given) (c .before .before .before .t152 .given) (c .before .before .t153 .given) _ (c .before .is-allowed .ensures) (not-false _ (c .if2 .left))
 
-add-exact : tie.Need-add-exact Inv-loop μ-loop
-add-exact c =
-    let l = c .before .before .before .before .before .before .before .before .before in
+plus-requires : tie.Need-plus-requires Inv-loop μ-loop
+plus-requires c κs =
+    let l = c .before .before .before .before .before .before .before in
     let entry = l .before .before in
     let a = entry .args in
-    sum-fits (a .amounts .now) (a .balanced .now) (a .prices .now) (entry .pre .0) (entry .pre .1) (toZ w64 (l .loop .exact)) (l .loop .i) (l .loop .inv) (omega arith) (c .before .before .before .before .before .before .before .t15 .given) (c .before .before .before .before .before .before .t152 .given) (c .before .before .before .before .before .t153 .given) _ (c .before .before .before .before .is-allowed .ensures) (not-false _ (c .before .before .before .if2 .left)) (omega arith) _ (c .before .before .cost-of .ensures)
+    sum-fits (a .amounts .now) (a .balanced .now) (a .prices .now) (entry .pre .0) (entry .pre .1) (l .loop .exact .0) (l .loop .i) (l .loop .inv) (omega arith) (c .before .before .before .before .before .t15 .given) (c .before .before .before .before .t152 .given) (c .before .before .before .t153 .given) _ (c .before .before .is-allowed .ensures) (not-false _ (c .before .if2 .left)) (omega arith) _ (c .cost-of .ensures)
 
 add-i : tie.Need-add-i Inv-loop μ-loop
 add-i c = omega arith
@@ -109,10 +107,10 @@ loop-less c = omega arith
 
 loop-again : tie.Need-loop-again Inv-loop μ-loop
 loop-again c =
-    let l = c .before .before .before .before .before .before .before .before .before in
+    let l = c .before .before .before .before .before .before .before .before in
     let entry = l .before .before in
     let a = entry .args in
-    sum-goes (a .amounts .now) (a .balanced .now) (a .prices .now) (entry .pre .0) (entry .pre .1) (toZ w64 (l .loop .exact)) (l .loop .i) (l .loop .inv) (omega arith) (c .before .before .before .before .before .before .before .t15 .given) (c .before .before .before .before .before .before .t152 .given) (c .before .before .before .before .before .t153 .given) _ (c .before .before .before .before .is-allowed .ensures) (not-false _ (c .before .before .before .if2 .left)) (omega arith) _ (c .before .before .cost-of .ensures)
+    sum-goes (a .amounts .now) (a .balanced .now) (a .prices .now) (entry .pre .0) (entry .pre .1) (l .loop .exact .0) (l .loop .i) (l .loop .inv) (omega arith) (c .before .before .before .before .before .before .t15 .given) (c .before .before .before .before .before .t152 .given) (c .before .before .before .before .t153 .given) _ (c .before .before .before .is-allowed .ensures) (not-false _ (c .before .before .if2 .left)) (omega arith) _ (c .before .cost-of .ensures) _ (c .plus .ensures)
 
 money-of-requires : tie.Need-money-of-requires Inv-loop μ-loop
 money-of-requires c κs = search needs
@@ -122,7 +120,7 @@ returns-3 c =
     let l = c .before .before in
     let entry = l .before .before in
     let a = entry .args in
-    sum-ends (a .amounts .now) (a .balanced .now) (a .prices .now) (entry .pre .0) (entry .pre .1) (toZ w64 (l .loop .exact)) (l .loop .i) (l .loop .inv) (omega arith) _ (c .money-of .ensures)
+    sum-ends (a .amounts .now) (a .balanced .now) (a .prices .now) (entry .pre .0) (entry .pre .1) (l .loop .exact .0) (l .loop .i) (l .loop .inv) (omega arith) _ (c .money-of .ensures)
 
 pub correction-over-spec : {M : Type 1} → statement M
 correction-over-spec =
@@ -152,7 +150,7 @@ correction-over-spec =
     refused-with-requires-2
     returns-2
     cost-of-requires
-    add-exact
+    plus-requires
     add-i
     loop-less
     loop-again
