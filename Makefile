@@ -46,7 +46,7 @@ lib: $(LIB)/libsandegmur.a $(LIB)/libsandegmur.so $(LIB)/sandegmur.h $(LIB)/sand
 
 # What the library stands on first, crates of one level beside each other. A host's own function settle takes the place of a weak one.
 $(LIB)/libsandegmur.a: $(SOURCES)
-	.ci/check booking filing takeback audit correction prepare
+	.ci/check takeback audit correction preview
 	rt staticlib host
 	mkdir -p $(LIB)
 	objcopy --weaken-symbol=settle target/staticlib/libhost.a $@

@@ -9,7 +9,7 @@
  * What the caller owes, since no call can see it:
  *   - each pointer names as many bytes as the length after it says, or as many numbers as the count after it says; NULL only
  *     with length or count 0. One without either names one number and is not NULL. Numbers are aligned as their type asks;
- *   - the parts of one call do not overlap, and nothing else writes to them during the call;
+ *   - the parts of one call do not overlap. During the call nothing else writes to them, or reads those that are not const;
  *   - the stack that the call takes, SANDEGMUR_SETTLE_STACK and its like.
  *
  * The functions with a body below only lay out and read bytes, and test no value: that is for the calls.
@@ -23,7 +23,7 @@
 /* The version of these declarations: the first number changes when a call or a number changes its meaning, the second
  * when something is added. */
 #define SANDEGMUR_VERSION_MAJOR 1
-#define SANDEGMUR_VERSION_MINOR 5
+#define SANDEGMUR_VERSION_MINOR 6
 
 #ifdef __cplusplus
 extern "C" {
@@ -88,6 +88,7 @@ enum { SANDEGMUR_NO_READING = 2147483647 };
 /* Bytes of stack that are enough for a call. At a first call of the shared library the dynamic linker may take some more. */
 enum {
     SANDEGMUR_SETTLE_STACK = 30720, /* settle and sandegmur_settle */
+    SANDEGMUR_PREVIEW_STACK = 31744,
     SANDEGMUR_AUDIT_STACK = 67584,
     SANDEGMUR_OTHER_STACK = 1024 /* fresh, append, take_back, show, delivery_day and correction */
 };
@@ -185,6 +186,18 @@ uint32_t sandegmur_append(uint8_t *archive, size_t archive_length, uint64_t owne
  * before the append, byte for byte if the new record's place was all 0; other bytes that stood there are lost. Called again, it
  * takes back the record before. Refused with 1 or 19. */
 uint32_t sandegmur_take_back(uint8_t *archive, size_t archive_length);
+
+/* What sandegmur_settle would give for plant place p and measure place k, had sandegmur_append filed the record under owner: the
+ * same number, amounts and result, and nothing is filed. A record of any kind can be previewed, also one that does not belong to
+ * the measure.
+ * archive: written during the call, so not in read-only memory, and nothing else reads or writes it meanwhile. When the call
+ *     returns, it is byte for byte as before, refused or not, sound or not. Bytes that stood in the new record's place come back
+ *     too, which sandegmur_take_back would make 0.
+ * list, result: as for sandegmur_settle. A quarter that is previewed under the measure needs its place in the list too.
+ * Refused as sandegmur_append with 1, 14, 15, 2, 3 or 16; then, with the record in its place, as sandegmur_settle with 2 to 13 or
+ * 18. List and result then keep their bytes. */
+uint32_t sandegmur_preview(uint8_t *archive, size_t archive_length, uint64_t owner, const uint8_t *record, size_t record_length,
+                           uint64_t p, uint64_t k, uint8_t *list, size_t list_length, uint8_t *result, size_t result_length);
 
 /* Tests the kinds and links of all used records. Refused with 1, 2, 3 or 17. */
 uint32_t sandegmur_audit(const uint8_t *archive, size_t archive_length);

@@ -5,7 +5,7 @@
 set -euo pipefail
 lib=$1 flags=$2 printed=$3
 sanitizers="-fsanitize=address,undefined -fno-sanitize-recover=all"
-sources="examples/host.c examples/dated.c examples/takeback.c examples/correction.c examples/settle.c tests/host.c"
+sources="examples/host.c examples/dated.c examples/takeback.c examples/correction.c examples/preview.c examples/settle.c tests/host.c"
 long=$lib/long.archive
 
 # Compiler, language, its standard, name of the build, further flags.
@@ -20,6 +20,7 @@ build_and_run() {
   "$lib/dated-examples-$4" | cmp - "$printed/dated"
   "$lib/takeback-examples-$4" | cmp - "$printed/takeback"
   "$lib/correction-examples-$4" | cmp - "$printed/correction"
+  "$lib/preview-examples-$4" | cmp - "$printed/preview"
   "$lib/host-tests-$4"
   for archive in $(find examples -name '*.archive' -size -65537c); do
     "$lib/settle-examples-$4" "$archive" | cmp - "${archive%.archive}.expected"

@@ -19,6 +19,8 @@ TABLES = [
     ("Taking back the last record of a sound archive, instructions per record", "take_back", "{}", (65535,), (32000,)),
     ("Append, instructions", "append", "each link of a chain of {}", (10000,), (1000,)),
     ("Append, instructions", "append", "a call behind a chain of 10 {}", (10,), None),
+    ("Preview, instructions", "preview", "each of 2,976 {}", (2975,), (2000,)),
+    ("Preview, instructions", "preview", "a call behind 4 {}", (4,), None),
     ("Correction, instructions", "correction", "each of 2,976 {}", (2976,), (2000,)),
     ("Correction, instructions", "correction", "a call of 4 {}", (4,), None),
 ]

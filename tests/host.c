@@ -1,5 +1,6 @@
 /* The header's bytes, and the calls from C and C++ where the promises end: lengths of 0 with NULL, list lengths that are no whole
- * places, result parts of every length near 24, and refused calls, which leave every byte. Exits with 0 if every check holds.
+ * places, result parts of every length near 24, refused calls, which leave every byte, and previews, which leave the archive.
+ * Exits with 0 if every check holds.
  *
  *     cc -std=c99 -Itarget/lib tests/host.c target/lib/libsandegmur.a -o test
  */
@@ -17,18 +18,21 @@ enum { DATED = 58, DATED_ARCHIVE = (3 + DATED) * SANDEGMUR_RECORD_BYTES, DATED_L
 /* For taking back: the archive's records, one or more of them unused. */
 enum { BACK = 12, BACK_ARCHIVE = BACK * SANDEGMUR_RECORD_BYTES };
 
+/* For previews: the archive's records, the first unused one, and how many ways there are to make such an archive. */
+enum { SEEN = 14, UNUSED = 11, SEEN_ARCHIVE = SEEN * SANDEGMUR_RECORD_BYTES, WAYS = 8 };
+
 /* For the financial correction: its ends and its remainder's unit, not by the header's names; and which list is which. */
 enum { ENERGY = 1000000000, PRICE = 1000000, CENT = 1000000, MONTH = 2976 };
 enum { AMOUNTS, BALANCED, PRICES, LISTS };
 
-static int failed;
+/* How many checks have failed, and of how many a line is printed: some are called thousands of times. */
+static unsigned long failed;
+enum { PRINTED = 100 };
 
 #define CHECK(test) \
     do { \
-        if (!(test)) { \
+        if (!(test) && failed++ < PRINTED) \
             fprintf(stderr, "%s:%d: %s\n", __FILE__, __LINE__, #test); \
-            failed = 1; \
-        } \
     } while (0)
 
 static int all_are(const uint8_t *bytes, size_t from, size_t until, uint8_t value)
@@ -115,7 +119,7 @@ static void test_constants(void)
     CHECK(SANDEGMUR_MOST_CORRECTED_ENERGY == 1000000000);
     CHECK(SANDEGMUR_MOST_PRICE == 1000000);
     CHECK(SANDEGMUR_MILLIONTHS_OF_CENT == 1000000);
-    CHECK(SANDEGMUR_VERSION_MAJOR == 1 && SANDEGMUR_VERSION_MINOR == 5);
+    CHECK(SANDEGMUR_VERSION_MAJOR == 1 && SANDEGMUR_VERSION_MINOR == 6);
 }
 
 /* Each kind of record as FORMAT.md lays it out, whatever stood in the 32 bytes. */
@@ -230,12 +234,10 @@ static void test_numbers(void)
     CHECK(sandegmur_audit(archive, ARCHIVE) == SANDEGMUR_NOT_REFUSED);
 }
 
-/* Settles a measure of so many before-quarters and quarters, in an archive that has no record more. */
-static uint32_t settle_counts(uint8_t *archive, int befores, int quarters)
+/* A measure of so many before-quarters and quarters. */
+static void file_counts(uint8_t *archive, size_t length, int befores, int quarters)
 {
-    static uint8_t list[(SANDEGMUR_MOST_QUARTERS + 1) * SANDEGMUR_PLACE_BYTES];
-    uint8_t record[SANDEGMUR_RECORD_BYTES], result[SANDEGMUR_RESULT_BYTES];
-    size_t length = (size_t)(3 + befores + quarters) * SANDEGMUR_RECORD_BYTES;
+    uint8_t record[SANDEGMUR_RECORD_BYTES];
     CHECK(sandegmur_fresh(archive, length) == SANDEGMUR_NOT_REFUSED);
     sandegmur_plant(record, SANDEGMUR_OTHER, SANDEGMUR_PAUSCHAL, 1000000);
     CHECK(file(archive, length, 0, record) == SANDEGMUR_NOT_REFUSED);
@@ -247,6 +249,15 @@ static uint32_t settle_counts(uint8_t *archive, int befores, int quarters)
     sandegmur_quarter(record, 7, 40, 400000, 0, 0, 0);
     for (int i = 0; i < quarters; i++)
         CHECK(file(archive, length, 2, record) == SANDEGMUR_NOT_REFUSED);
+}
+
+/* Settles such a measure, in an archive that has no record more. */
+static uint32_t settle_counts(uint8_t *archive, int befores, int quarters)
+{
+    static uint8_t list[(SANDEGMUR_MOST_QUARTERS + 1) * SANDEGMUR_PLACE_BYTES];
+    uint8_t result[SANDEGMUR_RESULT_BYTES];
+    size_t length = (size_t)(3 + befores + quarters) * SANDEGMUR_RECORD_BYTES;
+    file_counts(archive, length, befores, quarters);
     return sandegmur_settle(archive, length, 1, 1, list, sizeof list, result, sizeof result);
 }
 
@@ -288,10 +299,11 @@ static void test_names(void)
 static void test_null(void)
 {
     static const int64_t energy[] = { ENERGY + 1 };
-    uint8_t archive[ARCHIVE], record[SANDEGMUR_RECORD_BYTES] = { 1, 3, 2 }, list[LIST], result[RESULT];
+    uint8_t archive[ARCHIVE], was[ARCHIVE], record[SANDEGMUR_RECORD_BYTES] = { 1, 3, 2 }, list[LIST], result[RESULT];
     uint64_t day = FILL, remainder = FILL;
     int64_t cents = FILL;
     file_case_a(archive);
+    memcpy(was, archive, ARCHIVE);
     memset(list, FILL, LIST);
     memset(result, FILL, RESULT);
     CHECK(sandegmur_fresh(NULL, 0) == SANDEGMUR_NOT_ARCHIVE);
@@ -304,6 +316,18 @@ static void test_null(void)
     CHECK(settle(archive, ARCHIVE, 1, 1, NULL, 0, result, SANDEGMUR_RESULT_BYTES) == SANDEGMUR_NO_ROOM);
     CHECK(settle(archive, ARCHIVE, 1, 1, list, LIST, NULL, 0) == SANDEGMUR_NO_ROOM);
     CHECK(settle(NULL, 0, 0, 0, NULL, 0, NULL, 0) == SANDEGMUR_NOT_ARCHIVE);
+    CHECK(sandegmur_preview(NULL, 0, 0, record, sizeof record, 1, 1, list, LIST, result, SANDEGMUR_RESULT_BYTES)
+          == SANDEGMUR_NOT_ARCHIVE);
+    CHECK(sandegmur_preview(archive, ARCHIVE, 0, NULL, 0, 1, 1, list, LIST, result, SANDEGMUR_RESULT_BYTES)
+          == SANDEGMUR_BAD_RECORD);
+    CHECK(sandegmur_preview(archive, ARCHIVE, 0, NULL, 0, 1, 1, NULL, 0, NULL, 0) == SANDEGMUR_BAD_RECORD);
+    CHECK(sandegmur_preview(archive, ARCHIVE, 0, record, sizeof record, 1, 1, NULL, 0, result, SANDEGMUR_RESULT_BYTES)
+          == SANDEGMUR_NO_ROOM);
+    CHECK(sandegmur_preview(archive, ARCHIVE, 0, record, sizeof record, 1, 1, list, LIST, NULL, 0) == SANDEGMUR_NO_ROOM);
+    CHECK(sandegmur_preview(archive, ARCHIVE, 0, record, sizeof record, 1, 1, NULL, 0, NULL, 0) == SANDEGMUR_NO_ROOM);
+    CHECK(sandegmur_preview(archive, ARCHIVE, 0, record, sizeof record, 2, 1, NULL, 0, NULL, 0) == SANDEGMUR_NO_MEASURE);
+    CHECK(sandegmur_preview(NULL, 0, 0, NULL, 0, 0, 0, NULL, 0, NULL, 0) == SANDEGMUR_NOT_ARCHIVE);
+    CHECK(memcmp(archive, was, ARCHIVE) == 0);
     CHECK(sandegmur_delivery_day(0, NULL, 0, &day) == SANDEGMUR_NOT_IN_CALENDAR && day == FILL);
     CHECK(sandegmur_delivery_day(1, NULL, 0, &day) == SANDEGMUR_NOT_REFUSED && day == 35);
     CHECK(sandegmur_correction(energy, 1, NULL, 0, NULL, 0, &cents, &remainder) == SANDEGMUR_UNEQUAL_LISTS);
@@ -317,10 +341,25 @@ static void test_null(void)
     CHECK(all_are(result, 0, RESULT, FILL));
 }
 
+/* What case a leaves of FILL in list and result, refused or not. */
+static void check_case_a(uint32_t number, const uint8_t *list, const uint8_t *result)
+{
+    static const int64_t amounts[] = { 74999, 75000, 75000 };
+    if (number != SANDEGMUR_NOT_REFUSED) {
+        CHECK(all_are(list, 0, LIST, FILL));
+        CHECK(all_are(result, 0, RESULT, FILL));
+    } else {
+        for (int i = 0; i < 3; i++)
+            CHECK(sandegmur_amount(list + SANDEGMUR_PLACE_BYTES * i) == amounts[i]);
+        CHECK(all_are(list, 3 * SANDEGMUR_PLACE_BYTES, LIST, FILL));
+        check_result(result, 3, 224999, 6);
+        CHECK(all_are(result, SANDEGMUR_RESULT_BYTES, RESULT, FILL));
+    }
+}
+
 /* Every list length: 13 below 3 whole places; else three amounts, and no byte past them. */
 static void test_list_lengths(void)
 {
-    static const int64_t amounts[] = { 74999, 75000, 75000 };
     uint8_t archive[ARCHIVE], was[ARCHIVE], list[LIST], result[RESULT];
     file_case_a(archive);
     memcpy(was, archive, ARCHIVE);
@@ -328,18 +367,8 @@ static void test_list_lengths(void)
         memset(list, FILL, LIST);
         memset(result, FILL, RESULT);
         uint32_t number = settle(archive, ARCHIVE, 1, 1, list, length, result, SANDEGMUR_RESULT_BYTES);
-        if (length < 3 * SANDEGMUR_PLACE_BYTES) {
-            CHECK(number == SANDEGMUR_NO_ROOM);
-            CHECK(all_are(list, 0, LIST, FILL));
-            CHECK(all_are(result, 0, RESULT, FILL));
-        } else {
-            CHECK(number == SANDEGMUR_NOT_REFUSED);
-            for (int i = 0; i < 3; i++)
-                CHECK(sandegmur_amount(list + SANDEGMUR_PLACE_BYTES * i) == amounts[i]);
-            CHECK(all_are(list, 3 * SANDEGMUR_PLACE_BYTES, LIST, FILL));
-            check_result(result, 3, 224999, 6);
-            CHECK(all_are(result, SANDEGMUR_RESULT_BYTES, RESULT, FILL));
-        }
+        CHECK(number == (length < 3 * SANDEGMUR_PLACE_BYTES ? SANDEGMUR_NO_ROOM : SANDEGMUR_NOT_REFUSED));
+        check_case_a(number, list, result);
     }
     CHECK(memcmp(archive, was, ARCHIVE) == 0);
 }
@@ -933,15 +962,19 @@ static uint8_t *block_of(const uint8_t *bytes, size_t length)
 /* Every call on blocks of the archive's bytes cut at any place, and on lists and results that nothing has written. */
 static void test_blocks(void)
 {
-    uint8_t archive[ARCHIVE], added[SANDEGMUR_RECORD_BYTES] = { 5, 7, 43 };
+    uint8_t archive[ARCHIVE], added[SANDEGMUR_RECORD_BYTES] = { 5, 7, 43 }, seen[SANDEGMUR_RECORD_BYTES] = { 2 };
     file_case_a(archive);
     for (size_t length = 0; length <= ARCHIVE; length++) {
-        uint8_t *cut = block_of(archive, length), *record = block_of(added, sizeof added);
+        uint8_t *cut = block_of(archive, length), *record = block_of(added, sizeof added), *point = block_of(seen, sizeof seen);
         uint8_t *list = block_of(NULL, 3 * SANDEGMUR_PLACE_BYTES), *result = block_of(NULL, SANDEGMUR_RESULT_BYTES);
         int whole = length == ARCHIVE || length == ARCHIVE - SANDEGMUR_RECORD_BYTES;
         uint32_t number = settle(cut, length, 1, 1, list, 3 * SANDEGMUR_PLACE_BYTES, result, SANDEGMUR_RESULT_BYTES);
         CHECK(number == (whole ? SANDEGMUR_NOT_REFUSED : SANDEGMUR_NOT_ARCHIVE));
         CHECK(sandegmur_audit(cut, length) == number);
+        number = sandegmur_preview(cut, length, 1, point, sizeof seen, 1, 1, list, 3 * SANDEGMUR_PLACE_BYTES, result,
+                                   SANDEGMUR_RESULT_BYTES);
+        CHECK(number == (length == ARCHIVE ? SANDEGMUR_NOT_REFUSED : whole ? SANDEGMUR_ARCHIVE_FULL : SANDEGMUR_NOT_ARCHIVE));
+        CHECK(length == 0 || memcmp(cut, archive, length) == 0);
         for (uint64_t shown = 0; shown < RECORDS; shown++)
             CHECK(sandegmur_show(cut, length, shown) == (whole && shown < 7 ? SANDEGMUR_RECORD_BYTES * shown : length));
         number = sandegmur_append(cut, length, 2, record, sizeof added);
@@ -951,6 +984,7 @@ static void test_blocks(void)
         CHECK(sandegmur_fresh(cut, length) == (whole ? SANDEGMUR_NOT_REFUSED : SANDEGMUR_NOT_ARCHIVE));
         free(cut);
         free(record);
+        free(point);
         free(list);
         free(result);
     }
@@ -1245,6 +1279,584 @@ static void test_most_taken_back(void)
     free(was);
 }
 
+struct preview {
+    uint32_t number;
+    int64_t count, total, links; /* 0 if it is refused */
+};
+
+/* The preview beside what append and settle give one after the other on a copy. Archive, record, list and result are side by side
+ * in one array, in two orders and among other bytes: called twice, it changes list and result as settle does, or, if append or
+ * settle is refused, nothing. Afterwards append files the record as on the copy. */
+static struct preview check_preview(const uint8_t *archive, size_t length, uint64_t owner, const uint8_t *record,
+                                    size_t record_length, uint64_t p, uint64_t k, size_t list_length, size_t result_length)
+{
+    enum { BESIDE = SANDEGMUR_RECORD_BYTES };
+    const size_t whole = BESIDE + length + record_length + list_length + result_length + BESIDE;
+    struct preview found = { 0, 0, 0, 0 };
+    for (int order = 0; order < 2; order++) {
+        /* The archive first or last, and the others in turn. */
+        size_t archive_at = BESIDE, record_at = BESIDE + length, list_at = record_at + record_length;
+        size_t result_at = list_at + list_length;
+        if (order == 1) {
+            result_at = BESIDE;
+            list_at = result_at + result_length;
+            record_at = list_at + list_length;
+            archive_at = record_at + record_length;
+        }
+        uint8_t *all = block_of(NULL, whole);
+        memset(all, 0xff * order ^ FILL, whole);
+        memcpy(all + archive_at, archive, length);
+        memcpy(all + record_at, record, record_length);
+        uint8_t *filed = block_of(all, whole), *expected = block_of(all, whole);
+        uint32_t appended = sandegmur_append(filed + archive_at, length, owner, record, record_length);
+        found.number = appended;
+        if (appended == SANDEGMUR_NOT_REFUSED)
+            found.number = sandegmur_settle(filed + archive_at, length, p, k, expected + list_at, list_length,
+                                            expected + result_at, result_length);
+        for (int i = 0; i < 2; i++) {
+            CHECK(sandegmur_preview(all + archive_at, length, owner, all + record_at, record_length, p, k, all + list_at,
+                                    list_length, all + result_at, result_length) == found.number);
+            CHECK(memcmp(all + archive_at, archive, length) == 0);
+            CHECK(memcmp(all, expected, whole) == 0);
+        }
+        if (found.number == SANDEGMUR_NOT_REFUSED) {
+            found.count = sandegmur_amount(all + result_at + SANDEGMUR_RESULT_COUNT_AT);
+            found.total = sandegmur_amount(all + result_at + SANDEGMUR_RESULT_TOTAL_AT);
+            found.links = sandegmur_amount(all + result_at + SANDEGMUR_RESULT_LINKS_AT);
+        }
+        CHECK(sandegmur_append(all + archive_at, length, owner, record, record_length) == appended);
+        CHECK(memcmp(all + archive_at, filed + archive_at, length) == 0);
+        free(all);
+        free(filed);
+        free(expected);
+    }
+    return found;
+}
+
+/* With room for every amount: this number, or this result. */
+static void expect_preview(const uint8_t *archive, size_t length, uint64_t owner, const uint8_t *record, uint64_t p, uint64_t k,
+                           uint32_t number, int64_t count, int64_t total, int64_t links)
+{
+    struct preview found =
+        check_preview(archive, length, owner, record, SANDEGMUR_RECORD_BYTES, p, k, LIST, SANDEGMUR_RESULT_BYTES);
+    CHECK(found.number == number);
+    CHECK(found.count == count && found.total == total && found.links == links);
+}
+
+static void expect_refused(const uint8_t *archive, size_t length, uint64_t owner, const uint8_t *record, uint64_t p, uint64_t k,
+                           uint32_t number)
+{
+    expect_preview(archive, length, owner, record, p, k, number, 0, 0, 0);
+}
+
+/* Case a with its third quarter previewed, for every list length and every result length: 13 also for a list that has room for
+ * the filed quarters alone. Bytes stand in the unused records. */
+static void test_previewed(void)
+{
+    static const int32_t measured[] = { 500001, 500001 };
+    uint8_t archive[ARCHIVE], was[ARCHIVE], list[LIST], result[RESULT], record[SANDEGMUR_RECORD_BYTES];
+    file_measure(archive, SANDEGMUR_NEGATIVE, 800000, measured, 2);
+    memset(archive + 6 * SANDEGMUR_RECORD_BYTES, FILL, ARCHIVE - 6 * SANDEGMUR_RECORD_BYTES);
+    memcpy(was, archive, ARCHIVE);
+    sandegmur_quarter(record, 7, 42, 500002, 0, 0, 0);
+    for (size_t i = 0; i <= LIST + RESULT + 1; i++) {
+        size_t list_length = i, result_length = SANDEGMUR_RESULT_BYTES;
+        if (i > LIST) {
+            list_length = LIST;
+            result_length = i - LIST - 1;
+        }
+        int room = list_length >= 3 * SANDEGMUR_PLACE_BYTES && result_length == SANDEGMUR_RESULT_BYTES;
+        memset(list, FILL, LIST);
+        memset(result, FILL, RESULT);
+        uint32_t number = sandegmur_preview(archive, ARCHIVE, 2, record, sizeof record, 1, 1, list, list_length, result,
+                                            result_length);
+        CHECK(number == (room ? SANDEGMUR_NOT_REFUSED : SANDEGMUR_NO_ROOM));
+        check_case_a(number, list, result);
+        CHECK(memcmp(archive, was, ARCHIVE) == 0);
+        check_preview(archive, ARCHIVE, 2, record, sizeof record, 1, 1, list_length, result_length);
+        /* The archive has nothing of it. */
+        CHECK(settle(archive, ARCHIVE, 1, 1, list, LIST, result, SANDEGMUR_RESULT_BYTES) == SANDEGMUR_NOT_REFUSED);
+        check_result(result, 2, 149999, 5);
+    }
+    expect_preview(archive, ARCHIVE, 2, record, 1, 1, SANDEGMUR_NOT_REFUSED, 3, 224999, 6);
+    /* Filed, it settles as previewed. */
+    memset(list, FILL, LIST);
+    memset(result, FILL, RESULT);
+    CHECK(file(archive, ARCHIVE, 2, record) == SANDEGMUR_NOT_REFUSED);
+    check_case_a(settle(archive, ARCHIVE, 1, 1, list, LIST, result, SANDEGMUR_RESULT_BYTES), list, result);
+}
+
+/* A new record of a kind, one that fits the archives below. */
+static void record_of(uint8_t *record, uint8_t kind)
+{
+    if (kind == SANDEGMUR_PLANT)
+        sandegmur_plant(record, SANDEGMUR_OTHER, SANDEGMUR_PAUSCHAL, 1000000);
+    else if (kind == SANDEGMUR_CURVE_POINT)
+        sandegmur_curve_point(record, 30, 100001);
+    else if (kind == SANDEGMUR_MEASURE)
+        sandegmur_measure(record, SANDEGMUR_NEGATIVE, SANDEGMUR_TOLERATED);
+    else if (kind == SANDEGMUR_BEFORE_QUARTER)
+        sandegmur_before_quarter(record, SANDEGMUR_MARKED, 700000, 0);
+    else if (kind == SANDEGMUR_QUARTER)
+        sandegmur_quarter(record, 7, 42, 500002, 0, 0, 900000);
+    else
+        sandegmur_record(record, kind);
+}
+
+/* Other Pauschal, plant 1, with measures 2 and 3; other Spitz, plant 9, with measure 10, which has no quarter. Bytes stand in the
+ * rest of the head and in the unused records. Way 0 leaves it at that, each other way makes the archive unsound. */
+static void file_seen(uint8_t *archive, int way)
+{
+    static const struct {
+        uint8_t kind;
+        uint32_t owner;
+        int32_t measured;
+    } filed[] = {
+        { SANDEGMUR_PLANT, 0, 0 },          { SANDEGMUR_MEASURE, 1, 0 },
+        { SANDEGMUR_MEASURE, 1, 0 },        { SANDEGMUR_BEFORE_QUARTER, 2, 800000 },
+        { SANDEGMUR_QUARTER, 2, 500001 },   { SANDEGMUR_QUARTER, 2, 500001 },
+        { SANDEGMUR_BEFORE_QUARTER, 3, 600000 }, { SANDEGMUR_QUARTER, 3, 300002 },
+        { SANDEGMUR_PLANT, 0, 0 },          { SANDEGMUR_MEASURE, 9, 0 },
+    };
+    enum { HEAD_READ = 12 };
+    uint8_t record[SANDEGMUR_RECORD_BYTES];
+    CHECK(sandegmur_fresh(archive, SEEN_ARCHIVE) == SANDEGMUR_NOT_REFUSED);
+    memset(archive + HEAD_READ, FILL, SEEN_ARCHIVE - HEAD_READ);
+    for (size_t i = 0; i < sizeof filed / sizeof filed[0]; i++) {
+        record_of(record, filed[i].kind);
+        if (filed[i].kind >= SANDEGMUR_BEFORE_QUARTER)
+            sandegmur_put32(record + SANDEGMUR_QUARTER_MEASURED_AT, (uint32_t)filed[i].measured);
+        if (i + 1 == 9)
+            record[SANDEGMUR_PLANT_VARIANT_AT] = SANDEGMUR_SPITZ;
+        CHECK(file(archive, SEEN_ARCHIVE, filed[i].owner, record) == SANDEGMUR_NOT_REFUSED);
+    }
+    CHECK(sandegmur_used(archive, SEEN_ARCHIVE) == UNUSED);
+    CHECK(sandegmur_audit(archive, SEEN_ARCHIVE) == SANDEGMUR_NOT_REFUSED);
+
+    switch (way) {
+    case 1: /* The last quarter of measure 2 names the first unused record. */
+        sandegmur_put32(archive + 6 * SANDEGMUR_RECORD_BYTES + SANDEGMUR_NEXT_AT, UNUSED);
+        break;
+    case 2: /* The curve of plant 9 does. */
+        sandegmur_put32(archive + 9 * SANDEGMUR_RECORD_BYTES + SANDEGMUR_PLANT_FIRST_CURVE_POINT_AT, UNUSED);
+        break;
+    case 3: /* A record of unknown kind is on no chain. */
+        sandegmur_put32(archive + SANDEGMUR_HEAD_USED_AT, UNUSED + 1);
+        break;
+    case 4: /* Both measures of plant 1 share their quarters. */
+        sandegmur_put32(archive + 3 * SANDEGMUR_RECORD_BYTES + SANDEGMUR_MEASURE_FIRST_QUARTER_AT, 5);
+        break;
+    case 5: /* Measure 3 is on no chain. */
+        sandegmur_put32(archive + 2 * SANDEGMUR_RECORD_BYTES + SANDEGMUR_NEXT_AT, 0);
+        break;
+    case 6: /* The last quarter of measure 2 names itself. */
+        sandegmur_put32(archive + 6 * SANDEGMUR_RECORD_BYTES + SANDEGMUR_NEXT_AT, 6);
+        break;
+    case 7: /* It names a before-quarter. */
+        sandegmur_put32(archive + 6 * SANDEGMUR_RECORD_BYTES + SANDEGMUR_NEXT_AT, 7);
+        break;
+    default:
+        return;
+    }
+    CHECK(sandegmur_audit(archive, SEEN_ARCHIVE) != SANDEGMUR_NOT_REFUSED);
+}
+
+/* Each kind of record, for its own measure and for others. */
+static void test_previewed_kinds(void)
+{
+    uint8_t archive[SEEN_ARCHIVE], list[LIST], result[RESULT], record[SANDEGMUR_RECORD_BYTES];
+    file_seen(archive, 0);
+    for (uint64_t k = 1; k <= 3; k++)
+        CHECK(settle(archive, SEEN_ARCHIVE, 1, k, list, LIST, result, SANDEGMUR_RESULT_BYTES)
+              == (k <= 2 ? SANDEGMUR_NOT_REFUSED : SANDEGMUR_NO_MEASURE));
+    CHECK(settle(archive, SEEN_ARCHIVE, 2, 1, list, LIST, result, SANDEGMUR_RESULT_BYTES) == SANDEGMUR_BAD_COUNT);
+    CHECK(settle(archive, SEEN_ARCHIVE, 3, 1, list, LIST, result, SANDEGMUR_RESULT_BYTES) == SANDEGMUR_NO_PLANT);
+
+    /* A plant: it has no measure. */
+    record_of(record, SANDEGMUR_PLANT);
+    expect_preview(archive, SEEN_ARCHIVE, 0, record, 1, 1, SANDEGMUR_NOT_REFUSED, 2, 149999, 5);
+    expect_preview(archive, SEEN_ARCHIVE, 0, record, 1, 2, SANDEGMUR_NOT_REFUSED, 1, 74999, 5);
+    expect_refused(archive, SEEN_ARCHIVE, 0, record, 2, 1, SANDEGMUR_BAD_COUNT);
+    expect_refused(archive, SEEN_ARCHIVE, 0, record, 3, 1, SANDEGMUR_NO_MEASURE);
+    expect_refused(archive, SEEN_ARCHIVE, 0, record, 4, 1, SANDEGMUR_NO_PLANT);
+
+    /* A measure: it has no quarter, but in other Pauschal the before-quarter is missed first. */
+    record_of(record, SANDEGMUR_MEASURE);
+    expect_preview(archive, SEEN_ARCHIVE, 1, record, 1, 1, SANDEGMUR_NOT_REFUSED, 2, 149999, 5);
+    expect_refused(archive, SEEN_ARCHIVE, 1, record, 1, 3, SANDEGMUR_TOO_FEW_USABLE);
+    expect_refused(archive, SEEN_ARCHIVE, 1, record, 2, 2, SANDEGMUR_NO_MEASURE);
+    expect_refused(archive, SEEN_ARCHIVE, 9, record, 2, 2, SANDEGMUR_BAD_COUNT);
+    expect_refused(archive, SEEN_ARCHIVE, 9, record, 1, 3, SANDEGMUR_NO_MEASURE);
+    record[SANDEGMUR_MEASURE_DIRECTION_AT] = 3;
+    expect_refused(archive, SEEN_ARCHIVE, 9, record, 2, 2, SANDEGMUR_BAD_MEASURE);
+
+    /* A curve point: the rule doesn't need it. */
+    record_of(record, SANDEGMUR_CURVE_POINT);
+    expect_preview(archive, SEEN_ARCHIVE, 1, record, 1, 1, SANDEGMUR_NOT_REFUSED, 2, 149999, 5);
+
+    /* A before-quarter: one link more, but the first marked one stays the reference. */
+    record_of(record, SANDEGMUR_BEFORE_QUARTER);
+    expect_preview(archive, SEEN_ARCHIVE, 2, record, 1, 1, SANDEGMUR_NOT_REFUSED, 2, 149999, 6);
+    expect_preview(archive, SEEN_ARCHIVE, 2, record, 1, 2, SANDEGMUR_NOT_REFUSED, 1, 74999, 5);
+    expect_preview(archive, SEEN_ARCHIVE, 3, record, 1, 1, SANDEGMUR_NOT_REFUSED, 2, 149999, 5);
+    expect_preview(archive, SEEN_ARCHIVE, 3, record, 1, 2, SANDEGMUR_NOT_REFUSED, 1, 74999, 6);
+    record[SANDEGMUR_BEFORE_QUARTER_MARK_AT] = 2;
+    expect_refused(archive, SEEN_ARCHIVE, 2, record, 1, 1, SANDEGMUR_OUT_OF_RANGE);
+    /* It is the reference if the filed one isn't marked. */
+    record[SANDEGMUR_BEFORE_QUARTER_MARK_AT] = SANDEGMUR_MARKED;
+    archive[4 * SANDEGMUR_RECORD_BYTES + SANDEGMUR_BEFORE_QUARTER_MARK_AT] = SANDEGMUR_NOT_MARKED;
+    CHECK(settle(archive, SEEN_ARCHIVE, 1, 1, list, LIST, result, SANDEGMUR_RESULT_BYTES) == SANDEGMUR_TOO_FEW_USABLE);
+    expect_preview(archive, SEEN_ARCHIVE, 2, record, 1, 1, SANDEGMUR_NOT_REFUSED, 2, 99999, 6);
+    expect_refused(archive, SEEN_ARCHIVE, 3, record, 1, 1, SANDEGMUR_TOO_FEW_USABLE);
+    archive[4 * SANDEGMUR_RECORD_BYTES + SANDEGMUR_BEFORE_QUARTER_MARK_AT] = SANDEGMUR_MARKED;
+
+    /* A quarter: the first of measure 10 too. */
+    record_of(record, SANDEGMUR_QUARTER);
+    expect_preview(archive, SEEN_ARCHIVE, 2, record, 1, 1, SANDEGMUR_NOT_REFUSED, 3, 224999, 6);
+    expect_preview(archive, SEEN_ARCHIVE, 2, record, 1, 2, SANDEGMUR_NOT_REFUSED, 1, 74999, 5);
+    expect_preview(archive, SEEN_ARCHIVE, 3, record, 1, 1, SANDEGMUR_NOT_REFUSED, 2, 149999, 5);
+    expect_preview(archive, SEEN_ARCHIVE, 3, record, 1, 2, SANDEGMUR_NOT_REFUSED, 2, 99999, 6);
+    expect_preview(archive, SEEN_ARCHIVE, 10, record, 2, 1, SANDEGMUR_NOT_REFUSED, 1, 99999, 4);
+    expect_refused(archive, SEEN_ARCHIVE, 3, record, 2, 1, SANDEGMUR_BAD_COUNT);
+    sandegmur_put32(record + SANDEGMUR_QUARTER_MEASURED_AT, 1000000001);
+    expect_refused(archive, SEEN_ARCHIVE, 2, record, 1, 1, SANDEGMUR_OUT_OF_RANGE);
+    expect_preview(archive, SEEN_ARCHIVE, 2, record, 1, 2, SANDEGMUR_NOT_REFUSED, 1, 74999, 5);
+
+    /* Places and owners of more than 32 bits. */
+    record_of(record, SANDEGMUR_QUARTER);
+    expect_refused(archive, SEEN_ARCHIVE, 0x100000002, record, 1, 1, SANDEGMUR_BAD_OWNER);
+    expect_refused(archive, SEEN_ARCHIVE, 2, record, 0x100000001, 1, SANDEGMUR_NO_PLANT);
+    expect_refused(archive, SEEN_ARCHIVE, 2, record, 1, 0x100000001, SANDEGMUR_NO_MEASURE);
+}
+
+/* Wind Spitz, case b: its second curve point or its fourth before-quarter previewed. */
+static void test_previewed_wind(void)
+{
+    enum { BYTES = 11 * SANDEGMUR_RECORD_BYTES };
+    for (int points = 1; points <= 2; points++) {
+        int befores = 5 - points;
+        uint8_t archive[BYTES], list[LIST], result[RESULT], record[SANDEGMUR_RECORD_BYTES], point[SANDEGMUR_RECORD_BYTES];
+        uint8_t before[SANDEGMUR_RECORD_BYTES];
+        CHECK(sandegmur_fresh(archive, BYTES) == SANDEGMUR_NOT_REFUSED);
+        sandegmur_plant(record, SANDEGMUR_WIND, SANDEGMUR_SPITZ, 2000000);
+        CHECK(file(archive, BYTES, 0, record) == SANDEGMUR_NOT_REFUSED);
+        sandegmur_measure(record, SANDEGMUR_NEGATIVE, SANDEGMUR_TOLERATED);
+        CHECK(file(archive, BYTES, 1, record) == SANDEGMUR_NOT_REFUSED);
+        sandegmur_curve_point(point, 0, 0);
+        CHECK(file(archive, BYTES, 1, point) == SANDEGMUR_NOT_REFUSED);
+        sandegmur_curve_point(point, 200, 2000000);
+        if (points == 2)
+            CHECK(file(archive, BYTES, 1, point) == SANDEGMUR_NOT_REFUSED);
+        sandegmur_before_quarter(before, SANDEGMUR_MARKED, 900000, 100);
+        for (int i = 0; i < befores; i++)
+            CHECK(file(archive, BYTES, 2, before) == SANDEGMUR_NOT_REFUSED);
+        sandegmur_quarter(record, 0, 0, 350000, 0, 150, 0);
+        CHECK(file(archive, BYTES, 2, record) == SANDEGMUR_NOT_REFUSED);
+        CHECK(settle(archive, BYTES, 1, 1, list, LIST, result, SANDEGMUR_RESULT_BYTES)
+              == (points == 1 ? SANDEGMUR_BAD_CURVE : SANDEGMUR_TOO_FEW_USABLE));
+        if (points == 1) {
+            expect_preview(archive, BYTES, 1, point, 1, 1, SANDEGMUR_NOT_REFUSED, 1, 250000, 9);
+            expect_refused(archive, BYTES, 2, before, 1, 1, SANDEGMUR_BAD_CURVE);
+        } else {
+            expect_preview(archive, BYTES, 2, before, 1, 1, SANDEGMUR_NOT_REFUSED, 1, 250000, 9);
+            expect_refused(archive, BYTES, 1, point, 1, 1, SANDEGMUR_BAD_CURVE);
+        }
+        expect_refused(archive, BYTES, 2, record, 1, 1, points == 1 ? SANDEGMUR_BAD_CURVE : SANDEGMUR_TOO_FEW_USABLE);
+    }
+}
+
+/* A dated measure whose previewed quarter is past the last of the calendar: 18, before 13 and after 9. The readings of October
+ * 2026 count in the previewed quarter too. */
+static void test_preview_late(void)
+{
+    static const int32_t measured[] = { 500001, 500001 };
+    uint8_t archive[ARCHIVE], record[SANDEGMUR_RECORD_BYTES];
+    file_measure(archive, SANDEGMUR_NEGATIVE, 800000, measured, 2);
+    uint8_t *date = archive + sandegmur_show(archive, ARCHIVE, 2) + SANDEGMUR_MEASURE_DATE_AT;
+    sandegmur_quarter(record, 0, 0, 500002, 0, 0, 0);
+    sandegmur_put32(date, SANDEGMUR_LAST_QUARTER - 2);
+    expect_preview(archive, ARCHIVE, 2, record, 1, 1, SANDEGMUR_NOT_REFUSED, 3, 224999, 6);
+    CHECK(check_preview(archive, ARCHIVE, 2, record, sizeof record, 1, 1, 0, 0).number == SANDEGMUR_NO_ROOM);
+    sandegmur_quarter_readings(record, 600002, 0);
+    expect_preview(archive, ARCHIVE, 2, record, 1, 1, SANDEGMUR_NOT_REFUSED, 3, 174999, 6);
+    sandegmur_put32(date, SANDEGMUR_LAST_QUARTER - 1);
+    expect_refused(archive, ARCHIVE, 2, record, 1, 1, SANDEGMUR_NOT_IN_CALENDAR);
+    CHECK(check_preview(archive, ARCHIVE, 2, record, sizeof record, 1, 1, 0, 0).number == SANDEGMUR_NOT_IN_CALENDAR);
+    sandegmur_quarter_readings(record, 1000000001, 0);
+    expect_refused(archive, ARCHIVE, 2, record, 1, 1, SANDEGMUR_OUT_OF_RANGE);
+    CHECK(check_preview(archive, ARCHIVE, 2, record, sizeof record, 1, 1, 0, 0).number == SANDEGMUR_OUT_OF_RANGE);
+}
+
+/* A refusal of append, whether or not the archive is full, and whether or not settle has one too. */
+static void check_append_first(const uint8_t *archive, size_t cut, uint64_t owner, const uint8_t *record, size_t record_length,
+                               uint32_t number)
+{
+    static const size_t lengths[] = { UNUSED * SANDEGMUR_RECORD_BYTES, SEEN_ARCHIVE };
+    for (size_t i = 0; i < 2; i++) {
+        size_t length = lengths[i] - cut;
+        if (number == SANDEGMUR_ARCHIVE_FULL && i == 1)
+            continue;
+        CHECK(check_preview(archive, length, owner, record, record_length, 1, 1, LIST, SANDEGMUR_RESULT_BYTES).number == number);
+        CHECK(check_preview(archive, length, owner, record, record_length, 1, 2, LIST, SANDEGMUR_RESULT_BYTES).number == number);
+        CHECK(check_preview(archive, length, owner, record, record_length, 1, 1, 0, SANDEGMUR_RESULT_BYTES).number == number);
+        CHECK(check_preview(archive, length, owner, record, record_length, 1, 1, LIST, 0).number == number);
+        CHECK(check_preview(archive, length, owner, record, record_length, 0, 1, LIST, RESULT).number == number);
+        CHECK(check_preview(archive, length, owner, record, record_length, 1, 0, 0, 0).number == number);
+        CHECK(check_preview(archive, length, owner, record, record_length, 2, 1, LIST, SANDEGMUR_RESULT_BYTES).number == number);
+        CHECK(check_preview(archive, length, owner, record, record_length, UINT64_MAX, UINT64_MAX, 0, 0).number == number);
+    }
+}
+
+/* Append's refusals in their order, before settle's. */
+static void test_preview_order(void)
+{
+    static const uint32_t used[] = { 0, SEEN + 1, 0x10000 + UNUSED, UINT32_MAX };
+    static const uint64_t unused[] = { UNUSED, SEEN, 0x100000000, 0x100000002, UINT64_MAX }, owners[] = { 0, 0, 1, 1, 2, 2 };
+    uint8_t archive[SEEN_ARCHIVE], record[SANDEGMUR_RECORD_BYTES + 1] = { 0 };
+    file_seen(archive, 0);
+
+    /* 1: length, text and U, also beside a record that is 14 and an owner that is 15. */
+    for (int bad = 0; bad < 2; bad++) {
+        size_t record_length = bad ? 0 : SANDEGMUR_RECORD_BYTES;
+        uint64_t owner = bad ? UINT64_MAX : 2;
+        record_of(record, SANDEGMUR_QUARTER);
+        for (size_t cut = 1; cut < SANDEGMUR_RECORD_BYTES; cut++)
+            check_append_first(archive, cut, owner, record, record_length, SANDEGMUR_NOT_ARCHIVE);
+        for (size_t i = 0; i < 4; i++) {
+            archive[SANDEGMUR_HEAD_TEXT_AT + i] ^= 0x20;
+            check_append_first(archive, 0, owner, record, record_length, SANDEGMUR_NOT_ARCHIVE);
+            archive[SANDEGMUR_HEAD_TEXT_AT + i] ^= 0x20;
+        }
+        for (size_t i = 0; i < sizeof used / sizeof used[0]; i++) {
+            sandegmur_put32(archive + SANDEGMUR_HEAD_USED_AT, used[i]);
+            check_append_first(archive, 0, owner, record, record_length, SANDEGMUR_NOT_ARCHIVE);
+        }
+        sandegmur_put32(archive + SANDEGMUR_HEAD_USED_AT, UNUSED);
+    }
+
+    /* 14: length, kind and links, also beside an owner that is 15. */
+    for (int bad = 0; bad < 2; bad++) {
+        uint64_t owner = bad ? UINT64_MAX : 2;
+        for (size_t length = 0; length <= sizeof record; length++)
+            if (length != SANDEGMUR_RECORD_BYTES)
+                check_append_first(archive, 0, owner, record, length, SANDEGMUR_BAD_RECORD);
+        record[SANDEGMUR_KIND_AT] = 0;
+        check_append_first(archive, 0, owner, record, SANDEGMUR_RECORD_BYTES, SANDEGMUR_BAD_RECORD);
+        record[SANDEGMUR_KIND_AT] = SANDEGMUR_QUARTER + 1;
+        check_append_first(archive, 0, owner, record, SANDEGMUR_RECORD_BYTES, SANDEGMUR_BAD_RECORD);
+        for (uint8_t kind = SANDEGMUR_PLANT; kind <= SANDEGMUR_QUARTER; kind++)
+            for (size_t i = SANDEGMUR_NEXT_AT; i < (kind == SANDEGMUR_PLANT || kind == SANDEGMUR_MEASURE ? 16 : 8); i++) {
+                record_of(record, kind);
+                record[i] = 1;
+                check_append_first(archive, 0, bad ? owner : owners[kind], record, SANDEGMUR_RECORD_BYTES, SANDEGMUR_BAD_RECORD);
+            }
+        record_of(record, SANDEGMUR_QUARTER);
+    }
+
+    /* 15: unused, or of the wrong kind. */
+    for (uint8_t kind = SANDEGMUR_PLANT; kind <= SANDEGMUR_QUARTER; kind++) {
+        static const uint8_t kinds[UNUSED] = { 0, 1, 3, 3, 4, 5, 5, 4, 5, 1, 3 };
+        record_of(record, kind);
+        for (uint64_t owner = 0; owner < UNUSED; owner++)
+            if (kinds[owner] != kinds[owners[kind]])
+                check_append_first(archive, 0, owner, record, SANDEGMUR_RECORD_BYTES, SANDEGMUR_BAD_OWNER);
+        for (size_t i = 0; i < sizeof unused / sizeof unused[0]; i++)
+            check_append_first(archive, 0, unused[i], record, SANDEGMUR_RECORD_BYTES, SANDEGMUR_BAD_OWNER);
+    }
+
+    /* 2 and 3 on the chain that the record would join, then 16. */
+    record_of(record, SANDEGMUR_QUARTER);
+    for (int way = 6; way <= 7; way++) {
+        uint32_t number = way == 6 ? SANDEGMUR_BAD_LINK : SANDEGMUR_WRONG_KIND;
+        file_seen(archive, way);
+        check_append_first(archive, 0, 2, record, SANDEGMUR_RECORD_BYTES, number);
+        check_append_first(archive, 0, 3, record, SANDEGMUR_RECORD_BYTES, SANDEGMUR_ARCHIVE_FULL);
+        /* On another chain it is settle's, after 4 and 5. */
+        expect_refused(archive, SEEN_ARCHIVE, 3, record, 1, 1, number);
+        expect_preview(archive, SEEN_ARCHIVE, 3, record, 1, 2, SANDEGMUR_NOT_REFUSED, 2, 99999, 6);
+        expect_refused(archive, SEEN_ARCHIVE, 3, record, 0, 1, SANDEGMUR_NO_PLANT);
+        expect_refused(archive, SEEN_ARCHIVE, 3, record, 1, 0, SANDEGMUR_NO_MEASURE);
+        CHECK(check_preview(archive, SEEN_ARCHIVE, 3, record, SANDEGMUR_RECORD_BYTES, 1, 1, 0, 0).number == number);
+        /* Both chains broken, in one way each: append's. */
+        sandegmur_put32(archive + 8 * SANDEGMUR_RECORD_BYTES + SANDEGMUR_NEXT_AT, way == 6 ? 9 : 8);
+        check_append_first(archive, 0, 2, record, SANDEGMUR_RECORD_BYTES, number);
+        check_append_first(archive, 0, 3, record, SANDEGMUR_RECORD_BYTES,
+                           way == 6 ? SANDEGMUR_WRONG_KIND : SANDEGMUR_BAD_LINK);
+    }
+    file_seen(archive, 0);
+    check_append_first(archive, 0, 2, record, SANDEGMUR_RECORD_BYTES, SANDEGMUR_ARCHIVE_FULL);
+}
+
+/* In archives that aren't sound the preview answers as append and settle do. */
+static void test_preview_unsound(void)
+{
+    uint8_t archive[SEEN_ARCHIVE], list[LIST], result[RESULT], record[SANDEGMUR_RECORD_BYTES];
+    for (int way = 1; way <= 5; way++) {
+        file_seen(archive, way);
+        record_of(record, SANDEGMUR_QUARTER);
+        if (way == 1) {
+            /* The link that was bad leads to the new record, under whatever owner it would be filed. */
+            CHECK(settle(archive, SEEN_ARCHIVE, 1, 1, list, LIST, result, SANDEGMUR_RESULT_BYTES) == SANDEGMUR_BAD_LINK);
+            expect_refused(archive, SEEN_ARCHIVE, 2, record, 1, 1, SANDEGMUR_BAD_LINK);
+            expect_preview(archive, SEEN_ARCHIVE, 3, record, 1, 1, SANDEGMUR_NOT_REFUSED, 3, 224999, 6);
+            expect_preview(archive, SEEN_ARCHIVE, 3, record, 1, 2, SANDEGMUR_NOT_REFUSED, 2, 99999, 6);
+            record_of(record, SANDEGMUR_BEFORE_QUARTER);
+            expect_refused(archive, SEEN_ARCHIVE, 2, record, 1, 1, SANDEGMUR_WRONG_KIND);
+        } else if (way == 4) {
+            /* The quarter counts in both measures, whichever is its owner. */
+            expect_preview(archive, SEEN_ARCHIVE, 2, record, 1, 1, SANDEGMUR_NOT_REFUSED, 3, 224999, 6);
+            expect_preview(archive, SEEN_ARCHIVE, 3, record, 1, 1, SANDEGMUR_NOT_REFUSED, 3, 224999, 6);
+            expect_preview(archive, SEEN_ARCHIVE, 2, record, 1, 2, SANDEGMUR_NOT_REFUSED, 3, 74999, 7);
+            expect_preview(archive, SEEN_ARCHIVE, 3, record, 1, 2, SANDEGMUR_NOT_REFUSED, 3, 74999, 7);
+        } else {
+            expect_preview(archive, SEEN_ARCHIVE, 2, record, 1, 1, SANDEGMUR_NOT_REFUSED, 3, 224999, 6);
+            expect_preview(archive, SEEN_ARCHIVE, 3, record, 1, 1, SANDEGMUR_NOT_REFUSED, 2, 149999, 5);
+            if (way == 5)
+                expect_refused(archive, SEEN_ARCHIVE, 3, record, 1, 2, SANDEGMUR_NO_MEASURE);
+            else
+                expect_preview(archive, SEEN_ARCHIVE, 3, record, 1, 2, SANDEGMUR_NOT_REFUSED, 2, 99999, 6);
+        }
+    }
+}
+
+/* Every kind under every owner, for several places, list lengths and result lengths, in all these archives, with unused records
+ * and without. */
+static void test_preview_many(void)
+{
+    static const struct {
+        uint64_t p, k;
+    } places[] = { { 0, 1 }, { 1, 1 }, { 1, 2 }, { 1, 3 }, { 2, 1 }, { 3, 1 } };
+    static const struct {
+        size_t list, result;
+    } rooms[] = { { 0, 24 }, { 8, 24 }, { 16, 24 }, { 23, 24 }, { 29, 24 }, { 24, 23 } };
+    uint8_t archive[SEEN_ARCHIVE], record[SANDEGMUR_RECORD_BYTES];
+    int reached[SANDEGMUR_UNEQUAL_LISTS + 1] = { 0 };
+    for (int way = 0; way < WAYS; way++) {
+        file_seen(archive, way);
+        size_t full = sandegmur_used(archive, SEEN_ARCHIVE) * (size_t)SANDEGMUR_RECORD_BYTES;
+        for (uint8_t kind = SANDEGMUR_PLANT; kind <= SANDEGMUR_QUARTER; kind++) {
+            record_of(record, kind);
+            for (uint64_t owner = 0; owner <= UNUSED; owner++)
+                for (size_t i = 0; i < sizeof places / sizeof places[0]; i++)
+                    for (size_t j = 0; j < sizeof rooms / sizeof rooms[0]; j++)
+                        for (size_t length = full; length <= SEEN_ARCHIVE; length += SEEN_ARCHIVE - full)
+                            reached[check_preview(archive, length, owner, record, sizeof record, places[i].p, places[i].k,
+                                                  rooms[j].list, rooms[j].result).number]++;
+        }
+    }
+    for (uint32_t number = 0; number <= SANDEGMUR_UNEQUAL_LISTS; number++)
+        CHECK((reached[number] != 0)
+              == (number == SANDEGMUR_NOT_REFUSED || (number >= SANDEGMUR_BAD_LINK && number <= SANDEGMUR_NO_MEASURE)
+                  || number == SANDEGMUR_BAD_COUNT || number == SANDEGMUR_TOO_FEW_USABLE || number == SANDEGMUR_NO_ROOM
+                  || number == SANDEGMUR_BAD_OWNER || number == SANDEGMUR_ARCHIVE_FULL));
+}
+
+/* Archive, record, list and result each in a block of just its length. Nothing has written the list, the result and the unused
+ * record. */
+static void test_preview_blocks(void)
+{
+    enum { FILED = 6 * SANDEGMUR_RECORD_BYTES, BYTES = FILED + SANDEGMUR_RECORD_BYTES };
+    static const int32_t measured[] = { 500001, 500001 };
+    uint8_t archive[ARCHIVE], added[SANDEGMUR_RECORD_BYTES + 1] = { 0 };
+    file_measure(archive, SANDEGMUR_NEGATIVE, 800000, measured, 2);
+    sandegmur_quarter(added, 7, 42, 500002, 0, 0, 0);
+    for (size_t list_length = 0; list_length <= 4 * SANDEGMUR_PLACE_BYTES; list_length++)
+        for (size_t result_length = SANDEGMUR_RESULT_BYTES - 1; result_length <= SANDEGMUR_RESULT_BYTES + 1; result_length++)
+            for (size_t record_length = SANDEGMUR_RECORD_BYTES - 1; record_length <= sizeof added; record_length++) {
+                uint8_t *block = block_of(NULL, BYTES), *record = block_of(added, record_length);
+                uint8_t *list = block_of(NULL, list_length), *result = block_of(NULL, result_length);
+                int room = list_length >= 3 * SANDEGMUR_PLACE_BYTES && result_length == SANDEGMUR_RESULT_BYTES;
+                memcpy(block, archive, FILED);
+                uint32_t number = sandegmur_preview(block, BYTES, 2, record, record_length, 1, 1, list, list_length, result,
+                                                    result_length);
+                CHECK(number == (record_length != SANDEGMUR_RECORD_BYTES ? SANDEGMUR_BAD_RECORD
+                                 : room                                  ? SANDEGMUR_NOT_REFUSED
+                                                                         : SANDEGMUR_NO_ROOM));
+                CHECK(memcmp(block, archive, FILED) == 0);
+                if (number == SANDEGMUR_NOT_REFUSED) {
+                    CHECK(sandegmur_amount(list + 2 * SANDEGMUR_PLACE_BYTES) == 75000);
+                    check_result(result, 3, 224999, 6);
+                }
+                free(block);
+                free(record);
+                free(list);
+                free(result);
+            }
+}
+
+/* With the previewed record the most before-quarters and quarters, or one more; a list with a place for each quarter, and with one
+ * place less. 96 places, the quarters of a day, are no edge. */
+static void test_preview_counts(void)
+{
+    static const int counts[] = { 95, 96, SANDEGMUR_MOST_QUARTERS - 1, SANDEGMUR_MOST_QUARTERS };
+    uint8_t before[SANDEGMUR_RECORD_BYTES], quarter[SANDEGMUR_RECORD_BYTES];
+    size_t length = (5 + SANDEGMUR_MOST_QUARTERS) * (size_t)SANDEGMUR_RECORD_BYTES;
+    uint8_t *archive = block_of(NULL, length);
+    sandegmur_before_quarter(before, SANDEGMUR_MARKED, 700000, 0);
+    sandegmur_quarter(quarter, 7, 40, 400002, 0, 0, 0);
+    for (size_t i = 0; i < sizeof counts / sizeof counts[0]; i++) {
+        size_t places = (size_t)counts[i] + 1;
+        uint32_t number = counts[i] < SANDEGMUR_MOST_QUARTERS ? SANDEGMUR_NOT_REFUSED : SANDEGMUR_BAD_COUNT;
+        uint32_t less = counts[i] < SANDEGMUR_MOST_QUARTERS ? SANDEGMUR_NO_ROOM : SANDEGMUR_BAD_COUNT;
+        file_counts(archive, length, 1, counts[i]);
+        for (size_t j = 0; j < 3; j++) {
+            struct preview found = check_preview(archive, length, 2, quarter, sizeof quarter, 1, 1,
+                                                 (places + j - 1) * SANDEGMUR_PLACE_BYTES, SANDEGMUR_RESULT_BYTES);
+            CHECK(found.number == (j == 0 ? less : number));
+            if (found.number == SANDEGMUR_NOT_REFUSED) {
+                CHECK(found.count == counts[i] + 1 && found.links == 4 + counts[i]);
+                /* 400,000 / 4 for each filed quarter, and 399,998 / 4 rounded down. */
+                CHECK(found.total == 100000 * (int64_t)counts[i] + 99999);
+            }
+        }
+    }
+    for (int befores = SANDEGMUR_MOST_BEFORE_QUARTERS - 1; befores <= SANDEGMUR_MOST_BEFORE_QUARTERS; befores++) {
+        file_counts(archive, length, befores, 1);
+        if (befores < SANDEGMUR_MOST_BEFORE_QUARTERS)
+            expect_preview(archive, length, 2, before, 1, 1, SANDEGMUR_NOT_REFUSED, 1, 100000, 4 + befores);
+        else
+            expect_refused(archive, length, 2, before, 1, 1, SANDEGMUR_BAD_COUNT);
+    }
+    free(archive);
+}
+
+/* In an archive of as many records as there may be, with 255, 256, all but one and all of them used: a quarter at the end of a
+ * short chain, and at the end of one that has nearly every used record. A record longer, it is no archive. */
+static void test_most_previewed(void)
+{
+    size_t most = SANDEGMUR_MOST_BYTES;
+    uint8_t record[SANDEGMUR_RECORD_BYTES], *archive = block_of(NULL, most + SANDEGMUR_RECORD_BYTES);
+    static const uint32_t used[] = { 255, 256, SANDEGMUR_MOST_RECORDS - 1, SANDEGMUR_MOST_RECORDS };
+    static const int32_t measured[] = { 500001, 500001 };
+    sandegmur_quarter(record, 7, 40, 500002, 0, 0, 0);
+    for (size_t i = 0; i < sizeof used / sizeof used[0]; i++) {
+        uint32_t number = used[i] < SANDEGMUR_MOST_RECORDS ? SANDEGMUR_NOT_REFUSED : SANDEGMUR_ARCHIVE_FULL;
+        file_measure(archive, SANDEGMUR_NEGATIVE, 800000, measured, 2);
+        memset(archive + ARCHIVE, FILL, most + SANDEGMUR_RECORD_BYTES - ARCHIVE);
+        /* A second measure, 6, has every other quarter. */
+        uint8_t other[SANDEGMUR_RECORD_BYTES];
+        sandegmur_measure(other, SANDEGMUR_NEGATIVE, SANDEGMUR_TOLERATED);
+        CHECK(file(archive, most, 1, other) == SANDEGMUR_NOT_REFUSED);
+        sandegmur_put32(archive + 6 * SANDEGMUR_RECORD_BYTES + SANDEGMUR_MEASURE_FIRST_QUARTER_AT, 7);
+        for (uint32_t next = 7; next < used[i]; next++) {
+            memcpy(archive + SANDEGMUR_RECORD_BYTES * next, record, SANDEGMUR_RECORD_BYTES);
+            sandegmur_put32(archive + SANDEGMUR_RECORD_BYTES * next + SANDEGMUR_NEXT_AT, next + 1 < used[i] ? next + 1 : 0);
+        }
+        sandegmur_put32(archive + SANDEGMUR_HEAD_USED_AT, used[i]);
+        CHECK(sandegmur_audit(archive, most) == SANDEGMUR_NOT_REFUSED);
+        if (number == SANDEGMUR_NOT_REFUSED) {
+            expect_preview(archive, most, 2, record, 1, 1, number, 3, 224999, 6);
+            expect_preview(archive, most, 6, record, 1, 1, number, 2, 149999, 5);
+            expect_refused(archive, most, 6, record, 1, 2, SANDEGMUR_TOO_FEW_USABLE);
+        } else {
+            expect_refused(archive, most, 2, record, 1, 1, number);
+            expect_refused(archive, most, 6, record, 1, 2, number);
+        }
+        expect_refused(archive, most + SANDEGMUR_RECORD_BYTES, 2, record, 1, 1, SANDEGMUR_NOT_ARCHIVE);
+    }
+    free(archive);
+}
+
 int main(void)
 {
     test_constants();
@@ -1278,7 +1890,19 @@ int main(void)
     test_named();
     test_not_taken_back();
     test_most_taken_back();
-    if (!failed)
+    test_previewed();
+    test_previewed_kinds();
+    test_previewed_wind();
+    test_preview_late();
+    test_preview_order();
+    test_preview_unsound();
+    test_preview_many();
+    test_preview_blocks();
+    test_preview_counts();
+    test_most_previewed();
+    if (failed == 0)
         puts("host: every check holds");
-    return failed;
+    else
+        fprintf(stderr, "host: %lu checks failed\n", failed);
+    return failed != 0;
 }

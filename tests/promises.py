@@ -33,7 +33,7 @@ ROOT = Path(__file__).resolve().parent.parent
 PAGE = ROOT / "docs/PROMISES.md"
 
 # Words for what isn't in the repository: the kit, its commands, and words of its language.
-WORDS = ("rattle-kit-5b-plain", "097e4c862dff5811", "rt prove", "rt check", "requires", "&[u8]")
+WORDS = ("rattle-kit-5b-plain", "097e4c862dff5811", "rt prove", "rt check", "requires", "&[u8]", "const")
 
 # What numbers stand in that count nothing in the tree: names of papers, sizes and numbers of the format, and what was run by hand.
 PHRASES = (
@@ -70,6 +70,9 @@ PHRASES = (
     "from those of landing 9",
     "rules of October 2026",
     "from those of landing 10",
+    "from those of landing 12",
+    "from those of landing 13",
+    "1,000,000 calls of seed 12 with the code of landing 13",
     "| request 3 | wind",
     "| request 5 | of every three lists that aren't refused, 1,000,000 × cents + remainder",
     "the remainder is below 1,000,000",
@@ -77,6 +80,11 @@ PHRASES = (
     "| request 5 | prices",
     "| request 5 | both sides of zero",
     "a correction leaves 64 bits",
+    "| request 6 | a preview",
+    "| request 6 | on every archive",
+    "a link of 0 and the old U",
+    "| request 6 | undoing",
+    "| request 6 | a measure",
     "bounds of 0 and below",
     "9 beside 13 and 18",
     "from October 2026 on",
@@ -94,7 +102,7 @@ PHRASES = (
     "a status of 0 or 1",
     "the status is 1 exactly",
     "x86-64 Linux",
-    "length 0",
+    "length or count 0",
 )
 
 SPAN = re.compile(r"`([^`\n]*)`")

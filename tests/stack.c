@@ -1,6 +1,6 @@
-/* The stack that each call takes, measured and held to the header's figures: no more than the figure, and for settle and audit
- * no more than 4 KiB below it. A call runs on a stack of its own, filled with one byte; the lowest byte that it changed tells how
- * far down it went. Exits with 0 if every figure holds.
+/* The stack that each call takes, measured and held to the header's figures: no more than the figure, and for settle, preview and
+ * audit no more than 4 KiB below it. A call runs on a stack of its own, filled with one byte; the lowest byte that it changed
+ * tells how far down it went. Exits with 0 if every figure holds.
  *
  *     cc -Itarget/lib tests/stack.c target/lib/libsandegmur.a -o test
  */
@@ -22,7 +22,7 @@ enum {
     ARCHIVE = RECORDS * SANDEGMUR_RECORD_BYTES
 };
 
-enum call { SETTLE, SETTLE_BY_NAME, AUDIT, FRESH, APPEND, TAKE_BACK, SHOW, DELIVERY_DAY, CORRECTION };
+enum call { SETTLE, SETTLE_BY_NAME, PREVIEW, AUDIT, FRESH, APPEND, TAKE_BACK, SHOW, DELIVERY_DAY, CORRECTION };
 
 static uint8_t archive[ARCHIVE], list[SANDEGMUR_MOST_QUARTERS * SANDEGMUR_PLACE_BYTES], result[SANDEGMUR_RESULT_BYTES];
 static uint8_t record[SANDEGMUR_RECORD_BYTES];
@@ -46,6 +46,9 @@ static void run(void)
         break;
     case SETTLE_BY_NAME:
         answer = settle(archive, ARCHIVE, 1, 1, list, sizeof list, result, sizeof result);
+        break;
+    case PREVIEW:
+        answer = sandegmur_preview(archive, ARCHIVE, 2, record, sizeof record, 1, 1, list, sizeof list, result, sizeof result);
         break;
     case AUDIT:
         answer = sandegmur_audit(archive, ARCHIVE);
@@ -132,7 +135,7 @@ static void hold(const char *name, long bytes, long figure, long least)
 
 int main(void)
 {
-    long most = 0;
+    long most = 0, most_previewed = 0;
     for (uint8_t technology = SANDEGMUR_WIND; technology <= SANDEGMUR_OTHER; technology++)
         for (uint8_t variant = SANDEGMUR_SPITZ; variant <= SANDEGMUR_PAUSCHAL; variant++)
             for (int dated = 0; dated < 2; dated++) {
@@ -143,8 +146,16 @@ int main(void)
                     return 1;
                 most = bytes > most ? bytes : most;
                 most = by_name > most ? by_name : most;
+                /* The last quarter isn't filed but previewed. */
+                if (sandegmur_take_back(archive, ARCHIVE) != SANDEGMUR_NOT_REFUSED)
+                    return 1;
+                long previewed = taken(PREVIEW, SANDEGMUR_NOT_REFUSED);
+                if (previewed < 0)
+                    return 1;
+                most_previewed = previewed > most_previewed ? previewed : most_previewed;
             }
     hold("settle", most, SANDEGMUR_SETTLE_STACK, SANDEGMUR_SETTLE_STACK - PAGE);
+    hold("preview", most_previewed, SANDEGMUR_PREVIEW_STACK, SANDEGMUR_PREVIEW_STACK - PAGE);
     hold("audit", taken(AUDIT, SANDEGMUR_NOT_REFUSED), SANDEGMUR_AUDIT_STACK, SANDEGMUR_AUDIT_STACK - PAGE);
     hold("show", taken(SHOW, 0), SANDEGMUR_OTHER_STACK, 1);
     hold("append", taken(APPEND, SANDEGMUR_NOT_REFUSED), SANDEGMUR_OTHER_STACK, 1);

@@ -2,7 +2,8 @@
 //!
 //! Short measures are booked with a small store and a walk along the curve's points; longer ones go on with a table
 //! of 1,001 powers and a store for 2,976 amounts. Nothing goes to the list before the last test. The correction is one
-//! pass over the lists, with a second one only where a number isn't an ordinary one.
+//! pass over the lists, with a second one only where a number isn't an ordinary one. The preview files the record in
+//! place and takes it off again.
 
 use crate::calendar::LAST;
 use crate::program::MOST_BYTES;
@@ -832,14 +833,22 @@ pub fn append(archive: &mut [u8], owner: u64, new: &[u8]) -> u32 {
     match append_place(archive, owner, new) {
         Err(number) => number,
         Ok((used, last_link)) => {
-            archive[used * 32..used * 32 + 32].copy_from_slice(new);
-            archive[last_link..last_link + 4].copy_from_slice(&(used as u32).to_le_bytes());
-            archive[4..8].copy_from_slice(&(used as u32 + 1).to_le_bytes());
+            put(archive, used, last_link, new);
             0
         }
     }
 }
 
+/// Writes a record at number U, the chain's last link and U.
+#[inline(always)]
+fn put(archive: &mut [u8], used: usize, last_link: usize, new: &[u8]) {
+    archive[used * 32..used * 32 + 32].copy_from_slice(new);
+    archive[last_link..last_link + 4].copy_from_slice(&(used as u32).to_le_bytes());
+    archive[4..8].copy_from_slice(&(used as u32 + 1).to_le_bytes());
+}
+
+/// U and the byte at which the chain's last link starts.
+#[inline(always)]
 fn append_place(archive: &[u8], owner: u64, new: &[u8]) -> Result<(usize, usize), u32> {
     let records = used_records(archive)?;
     let new: &Record = new.try_into().map_err(|_| 14u32)?;
@@ -871,6 +880,44 @@ fn append_place(archive: &[u8], owner: u64, new: &[u8]) -> Result<(usize, usize)
         return Err(16);
     }
     Ok((records.len(), holder as usize * 32 + at))
+}
+
+/// Preview on a list of numbers.
+pub fn preview(archive: &mut [u8], owner: u64, new: &[u8], p: u64, k: u64, list: &mut [i64]) -> Answer {
+    match with_record(archive, owner, new, |archive| settle(archive, p, k, list)) {
+        Ok(answer) => answer,
+        Err(number) => Answer::refused(number),
+    }
+}
+
+/// Preview as the host calls it.
+pub fn host_preview(
+    archive: &mut [u8],
+    owner: u64,
+    new: &[u8],
+    p: u64,
+    k: u64,
+    list: &mut [u8],
+    result: &mut [u8],
+) -> u32 {
+    match with_record(archive, owner, new, |archive| host_settle(archive, p, k, list, result)) {
+        Ok(number) | Err(number) => number,
+    }
+}
+
+/// A call on the archive with one more record, which is filed in place; afterwards the place, the link and U get back
+/// what they had.
+#[inline(always)]
+fn with_record<T>(archive: &mut [u8], owner: u64, new: &[u8], call: impl FnOnce(&[u8]) -> T) -> Result<T, u32> {
+    let (used, last_link) = append_place(archive, owner, new)?;
+    let kept: Record = Records(archive)[used];
+    put(archive, used, last_link, new);
+    let answer = call(archive);
+    archive[used * 32..used * 32 + 32].copy_from_slice(&kept);
+    // The chain ended there.
+    archive[last_link..last_link + 4].fill(0);
+    archive[4..8].copy_from_slice(&(used as u32).to_le_bytes());
+    Ok(answer)
 }
 
 /// Audit with a table of marks, one bit a record.

@@ -1,5 +1,5 @@
-//! Seeded calls on document 01's archive, request 1's calendar, request 2's last record, request 3's readings and
-//! request 5's lists: valid ones, one fault, several faults, mutations and noise.
+//! Seeded calls on document 01's archive, request 1's calendar, request 2's last record, request 3's readings, request
+//! 5's lists and request 6's previews: valid ones, one fault, several faults, mutations and noise.
 //!
 //! Every seed and index gives one call, the same everywhere.
 
@@ -21,10 +21,11 @@ pub enum Call {
     DeliveryDay { quarter: u64, holidays: Vec<u32> },
     TakeBack { archive: Vec<u8> },
     Correction { amounts: Vec<i64>, balanced: Vec<i64>, prices: Vec<i64> },
+    Preview { archive: Vec<u8>, owner: u64, record: Vec<u8>, p: u64, k: u64, list: Vec<u8>, result: Vec<u8> },
 }
 
 /// The numbers that each call can give.
-pub const NUMBERS: [(&str, &[Refusal]); 7] = [
+pub const NUMBERS: [(&str, &[Refusal]); 8] = [
     ("settle", &[0, 1, 2, 3, 4, 5, 6, 7, 8, 9, 10, 11, 12, 13, 18]),
     ("append", &[0, 1, 2, 3, 14, 15, 16]),
     ("audit", &[0, 1, 2, 3, 17]),
@@ -32,6 +33,7 @@ pub const NUMBERS: [(&str, &[Refusal]); 7] = [
     ("delivery day", &[0, 18]),
     ("take back", &[0, 1, 19]),
     ("correction", &[0, 20, 21, 22]),
+    ("preview", &[0, 1, 2, 3, 4, 5, 6, 7, 8, 9, 10, 11, 12, 13, 14, 15, 16, 18]),
 ];
 
 /// The pairings and directions that can settle, each in executions 1 to 3.
@@ -57,8 +59,28 @@ pub struct Case {
     pub expected: Option<Refusal>,
 }
 
+/// Percent of the calls that are previews.
+const PREVIEWS: usize = 10;
+
 /// Call number `index` of a seed.
 pub fn call(seed: u64, index: u64) -> Case {
+    if Rng::new(seed ^ PREVIEW, index).chance(PREVIEWS) {
+        preview(seed, index)
+    } else {
+        other_call(seed, index)
+    }
+}
+
+/// Previews have numbers of their own, so that the other calls are the same with and without them.
+const PREVIEW: u64 = 0x5072_6576_6965_7700;
+
+/// Preview number `index` of a seed.
+pub fn preview(seed: u64, index: u64) -> Case {
+    preview_case(&mut Rng::new(seed ^ PREVIEW ^ 1, index))
+}
+
+/// Call number `index` of a seed that is no preview.
+pub fn other_call(seed: u64, index: u64) -> Case {
     let mut rng = Rng::new(seed, index);
     match rng.below(100) {
         0..=48 => settle_case(&mut rng),
@@ -1444,6 +1466,73 @@ const FILINGS: [Filing; 10] = [
     Filing::Full,
 ];
 
+impl Filing {
+    /// Its row of the table.
+    fn number(self) -> Refusal {
+        match self {
+            Filing::Head => 1,
+            Filing::RecordLength | Filing::RecordKind | Filing::RecordNext | Filing::RecordLinks => 14,
+            Filing::OwnerUnused | Filing::OwnerKind => 15,
+            Filing::Link => 2,
+            Filing::Kind => 3,
+            Filing::Full => 16,
+        }
+    }
+}
+
+/// The owner that the call names: the right one, or one that is 15. The bytes of a wrong one may change.
+fn wrong_owner(rng: &mut Rng, filed: &mut Filed, kind: u8, owner: u64, filings: &[Filing]) -> u64 {
+    let mut call_owner = owner;
+    if filings.contains(&Filing::OwnerUnused) {
+        let (used, all) = (filed.used, filed.all());
+        call_owner = match rng.below(8) {
+            0 | 1 => used,
+            2 => all,
+            3 => all + 1,
+            4 | 5 => (1 << 32) + owner,
+            6 => rng.pick(&[65_535, 65_536, 1 << 32, 1 << 63]).max(used),
+            _ => u64::MAX,
+        };
+        if call_owner < all {
+            *filed.byte(call_owner, 0) = if kind < 4 { PLANT } else { MEASURE };
+        }
+    }
+    if filings.contains(&Filing::OwnerKind) {
+        let right = |found: u8| if kind < 4 { kind > PLANT && found == PLANT } else { found == MEASURE };
+        let wrong: Vec<u64> = (1..filed.used).filter(|&number| !right(filed.kind(number))).take(50).collect();
+        call_owner = if wrong.is_empty() || (kind != PLANT && rng.chance(25)) { 0 } else { rng.pick(&wrong) };
+        if kind == PLANT && call_owner == 0 {
+            call_owner = filed.used;
+        } else if call_owner != 0 && rng.chance(20) {
+            let start = call_owner as usize * RECORD;
+            filed.bytes[start..start + 4].copy_from_slice(b"AARB");
+            if kind != PLANT {
+                *filed.byte(call_owner, 0) = b'A';
+            }
+        }
+    }
+    call_owner
+}
+
+/// Makes a record one that is 14.
+fn wrong_record(rng: &mut Rng, record: &mut Vec<u8>, filings: &[Filing]) {
+    if filings.contains(&Filing::RecordKind) {
+        record[0] = rng.pick(&[0, 6, 9, 65, 128, 255]);
+    }
+    if filings.contains(&Filing::RecordNext) {
+        let at = 4 + rng.below(4);
+        record[at] = 1 + rng.below(255) as u8;
+    }
+    if filings.contains(&Filing::RecordLinks) {
+        let at = 8 + rng.below(8);
+        record[at] = 1 + rng.below(255) as u8;
+    }
+    if filings.contains(&Filing::RecordLength) {
+        let length = rng.pick(&[0, 1, 8, 31, 33, 64]);
+        record.resize(length, 0);
+    }
+}
+
 /// Several small plants with measures.
 fn small_sheet(rng: &mut Rng, dirty: bool) -> Vec<Plant> {
     let mut plants: Vec<Plant> = (0..rng.below(4)).map(|_| company(rng, dirty)).collect();
@@ -1533,20 +1622,12 @@ fn append_case(rng: &mut Rng) -> Case {
             (0, vec![Field { owner: 0, holder: 0, at: FIRST, kind: PLANT }])
         }
     };
-    let mut expected = match filings.as_slice() {
+    let mut expected = match filings[..] {
         [] => Some(0),
-        [filing] => Some(match filing {
-            Filing::Head => 1,
-            Filing::OwnerUnused | Filing::OwnerKind => 15,
-            Filing::Link => 2,
-            Filing::Kind => 3,
-            Filing::Full => 16,
-            _ => 14,
-        }),
+        [filing] => Some(filing.number()),
         _ => None,
     };
 
-    let mut call_owner = owner;
     if filings.contains(&Filing::Link) {
         break_link(rng, &mut filed, &chain);
     }
@@ -1575,35 +1656,7 @@ fn append_case(rng: &mut Rng) -> Case {
             }
         }
     }
-    if filings.contains(&Filing::OwnerUnused) {
-        let (used, all) = (filed.used, filed.all());
-        call_owner = match rng.below(8) {
-            0 | 1 => used,
-            2 => all,
-            3 => all + 1,
-            4 | 5 => (1 << 32) + owner,
-            6 => rng.pick(&[65_535, 65_536, 1 << 32, 1 << 63]).max(used),
-            _ => u64::MAX,
-        };
-        if call_owner < all {
-            *filed.byte(call_owner, 0) = if kind < 4 { PLANT } else { MEASURE };
-        }
-    }
-    if filings.contains(&Filing::OwnerKind) {
-        let right = |found: u8| if kind < 4 { kind > PLANT && found == PLANT } else { found == MEASURE };
-        let wrong: Vec<u64> = (1..filed.used).filter(|&number| !right(filed.kind(number))).take(50).collect();
-        call_owner = if wrong.is_empty() || (kind != PLANT && rng.chance(25)) { 0 } else { rng.pick(&wrong) };
-        if kind == PLANT && call_owner == 0 {
-            call_owner = filed.used;
-        } else if call_owner != 0 && rng.chance(20) {
-            let start = call_owner as usize * RECORD;
-            filed.bytes[start..start + 4].copy_from_slice(b"AARB");
-            if kind != PLANT {
-                *filed.byte(call_owner, 0) = b'A';
-            }
-            expected = if filings.len() == 1 { Some(15) } else { None };
-        }
-    }
+    let mut call_owner = wrong_owner(rng, &mut filed, kind, owner, &filings);
 
     let mut record = rng.bytes(RECORD);
     record[0] = kind;
@@ -1611,21 +1664,7 @@ fn append_case(rng: &mut Rng) -> Case {
     if kind == PLANT || kind == MEASURE {
         record[8..16].fill(0);
     }
-    if filings.contains(&Filing::RecordKind) {
-        record[0] = rng.pick(&[0, 6, 9, 65, 128, 255]);
-    }
-    if filings.contains(&Filing::RecordNext) {
-        let at = 4 + rng.below(4);
-        record[at] = 1 + rng.below(255) as u8;
-    }
-    if filings.contains(&Filing::RecordLinks) {
-        let at = 8 + rng.below(8);
-        record[at] = 1 + rng.below(255) as u8;
-    }
-    if filings.contains(&Filing::RecordLength) {
-        let length = rng.pick(&[0, 1, 8, 31, 33, 64]);
-        record.resize(length, 0);
-    }
+    wrong_record(rng, &mut record, &filings);
     if filings.contains(&Filing::Head) {
         let fault = rng.pick(&[Length, Text, Used]);
         break_head(rng, &mut filed, fault);
@@ -2520,6 +2559,404 @@ fn correction_case(rng: &mut Rng) -> Case {
     };
     let [amounts, balanced, prices] = lists;
     Case { call: Call::Correction { amounts, balanced, prices }, expected: Some(expected) }
+}
+
+// ---------------------------------------------------------------------------------------------------------------
+// Preview
+
+/// The record that is one more.
+#[derive(Clone, Copy, Debug, PartialEq, Eq)]
+enum More {
+    /// The last of a chain of the measure that is settled, or of its plant.
+    OwnQuarter,
+    OwnBefore,
+    OwnPoint,
+    /// A measure of its plant, or a plant; sometimes this one is settled.
+    NewMeasure,
+    NewPlant,
+    /// Under another plant or measure.
+    Elsewhere,
+}
+
+use More::*;
+
+#[rustfmt::skip]
+const MORE: &[More] = &[
+    OwnQuarter, OwnQuarter, OwnQuarter, OwnQuarter, OwnQuarter, OwnQuarter, OwnQuarter, OwnBefore, OwnBefore, OwnBefore,
+    OwnPoint, OwnPoint, NewMeasure, NewMeasure, NewPlant, Elsewhere, Elsewhere, Elsewhere,
+];
+
+/// A record of this kind with any fields, its links zero.
+fn any_record(rng: &mut Rng, kind: u8) -> Vec<u8> {
+    let mut record = rng.bytes(RECORD);
+    record[0] = kind;
+    record[4..if matches!(kind, PLANT | MEASURE) { 16 } else { 8 }].fill(0);
+    record
+}
+
+/// Puts records that nothing names behind the used ones until there are so many of these.
+fn pad(rng: &mut Rng, filed: &mut Filed, used: u64) {
+    let unused = filed.bytes.split_off(filed.used as usize * RECORD);
+    while filed.used < used {
+        let kind = 1 + rng.below(5) as u8;
+        let record = any_record(rng, kind);
+        filed.bytes.extend(record);
+        filed.used += 1;
+    }
+    filed.bytes.extend(unused);
+    filed.set_used(filed.used as u32);
+}
+
+/// Puts old bytes where the next record goes.
+fn old_bytes(rng: &mut Rng, filed: &mut Filed, record: &[u8]) {
+    let (used, start) = (filed.used, filed.used as usize * RECORD);
+    if used == filed.all() {
+        return;
+    }
+    let old = match rng.below(12) {
+        0..=3 => return,
+        4 | 5 => vec![0; RECORD],
+        6 => vec![rng.pick(&[1, 9, 255]); RECORD],
+        7 if record.len() == RECORD => record.to_vec(),
+        8 => {
+            let number = rng.word() % used;
+            crate::archive::record(&filed.bytes, number).to_vec()
+        }
+        _ => rng.bytes(RECORD),
+    };
+    filed.bytes[start..start + RECORD].copy_from_slice(&old);
+    if rng.chance(30) {
+        // A record that was there before, of a known kind and with links.
+        *filed.byte(used, 0) = 1 + rng.below(5) as u8;
+        for at in [NEXT, FIRST, SECOND] {
+            let to = rng.pick(&[0, 1, used as u32, used as u32 + 1]);
+            filed.set_link(used, at, to);
+        }
+    }
+}
+
+/// Sets a link that named nothing to U, where the next record goes: often one that settle follows, and the right one
+/// for a record of this kind.
+fn stale_link(rng: &mut Rng, filed: &mut Filed, plant: usize, measure: usize, kind: u8) {
+    let far = u64::MAX;
+    let chains = [Plants, Measures, Curve, Chain::Before, Quarters];
+    let own = chains.map(|chain| chain_fields(filed, chain, plant, measure, far, far));
+    let mut free: Vec<Field> = own.iter().filter_map(|fields| fields.last().copied()).collect();
+    match rng.below(10) {
+        0..=3 => free = all_fields(filed),
+        4..=7 => free.retain(|field| field.kind == kind),
+        _ => {}
+    }
+    free.retain(|field| filed.link(field.holder, field.at) == 0);
+    if !free.is_empty() {
+        let field = rng.pick(&free);
+        let used = filed.used as u32;
+        filed.set_link(field.holder, field.at, used);
+    }
+}
+
+/// A preview on plausible records at random, or on any bytes.
+fn wild_preview(rng: &mut Rng) -> Case {
+    let mut archive = if rng.chance(80) { soup(rng) } else { noise(rng) };
+    if rng.chance(70) {
+        let more = RECORD * (1 + rng.below(3));
+        let noise = rng.bytes(more);
+        archive.extend(noise);
+    }
+    let kind = 1 + rng.below(5) as u8;
+    let above = if kind <= MEASURE { PLANT } else { MEASURE };
+    let all = (archive.len() / RECORD) as u64;
+    let owners: Vec<u64> = (1..all).filter(|&number| record(&archive, number)[0] == above).collect();
+    let owner = match owners[..] {
+        _ if kind == PLANT => 0,
+        [] => rng.below(4) as u64,
+        _ => rng.pick(&owners),
+    };
+    let record = any_record(rng, kind);
+    let (p, k) = (rng.below(4) as u64, rng.below(4) as u64);
+    let places = rng.below(8);
+    let (list, result) = list_and_result(rng, places, &[]);
+    Case { call: Call::Preview { archive, owner, record, p, k, list, result }, expected: None }
+}
+
+/// A preview at the limits of the chains: 2,976 quarters, 96 before-quarters.
+fn long_preview(rng: &mut Rng) -> Case {
+    let quarter = |rng: &mut Rng| Quarter {
+        measured: rng.range(0, 900_000) as i32,
+        limit: rng.range(0, 900_000) as i32,
+        planned: rng.range(0, 2_000_000) as i32,
+        ..Quarter::default()
+    };
+    let of_quarters = rng.chance(40);
+    let (before, quarters) = if of_quarters { (1, rng.range(2_974, 2_976)) } else { (rng.range(94, 96), 3) };
+    let marked = Before { mark: 1, measured: rng.range(0, 2_000_000) as i32, weather: 0 };
+    let quarters: Vec<Quarter> = (0..quarters).map(|_| quarter(rng)).collect();
+    let before = vec![marked; before as usize];
+    let measure = Measure { direction: 2, execution: rng.range(1, 3) as u8, first: 0, before, quarters };
+    let plant = Plant { technology: 3, variant: 2, nominal: 2_000_000, curve: Vec::new(), measures: vec![measure] };
+    let (before, count) = (plant.measures[0].before.len(), plant.measures[0].quarters.len());
+    let mut filed = file(&[plant], &Layout { spare: 1, noise: rng.chance(50), ..Layout::PLAIN }, rng);
+    let record = if of_quarters {
+        let quarter = quarter(rng);
+        quarter_record(&quarter, rng, true)
+    } else {
+        before_record(&marked, rng, true)
+    };
+    old_bytes(rng, &mut filed, &record);
+    let owner = filed.plants[0].measures[0].number;
+    let many = if of_quarters { count == 2_976 } else { before == 96 };
+    let (list, result) = list_and_result(rng, count + usize::from(of_quarters), &[]);
+    let call = Call::Preview { archive: filed.bytes, owner, record: record.to_vec(), p: 1, k: 1, list, result };
+    Case { call, expected: Some(if many { 8 } else { 0 }) }
+}
+
+/// A preview in an archive of as many records as there can be; the chain of quarters is too long for settle if they
+/// fill it.
+fn longest_preview(rng: &mut Rng) -> Case {
+    let mut filed = longest(rng);
+    let fits = filed.used < filed.all();
+    if !fits && rng.chance(50) {
+        // The last quarter is taken off.
+        let used = filed.used - 1;
+        let last = filed.plants[0].measures[0].quarters.len() - 2;
+        let holder = filed.plants[0].measures[0].quarters[last];
+        filed.set_link(holder, NEXT, 0);
+        filed.set_used(used as u32);
+        filed.used = used;
+    }
+    let owner = filed.plants[0].measures[0].number;
+    let record = quarter_record(&Quarter { measured: 3, planned: 8, ..Quarter::default() }, rng, true).to_vec();
+    let (list, result) = list_and_result(rng, 41, &[]);
+    let expected = match filed.used < filed.all() {
+        false => 16,
+        true if fits => 0,
+        true => 8,
+    };
+    let call = Call::Preview { archive: filed.bytes, owner, record, p: 1, k: 1, list, result };
+    Case { call, expected: Some(expected) }
+}
+
+fn preview_case(rng: &mut Rng) -> Case {
+    let mode = rng.below(1_000);
+    match mode {
+        0..=39 => return wild_preview(rng),
+        40..=49 => return long_preview(rng),
+        50 | 51 => return longest_preview(rng),
+        _ => {}
+    }
+
+    // What append and settle would meet.
+    let filings: Vec<Filing> = match rng.below(100) {
+        0..=66 => vec![],
+        67..=91 => vec![rng.pick(&FILINGS)],
+        _ => vec![rng.pick(&FILINGS), rng.pick(&FILINGS)],
+    };
+    let count = rng.pick(&[0, 0, 0, 0, 0, 1, 1, 1, 1, 2]);
+    let side = if count > 0 && rng.chance(35) { SIDES[0] } else { rng.pick(&SIDES) };
+    let pairing = Pairing::of(side.0, side.1).unwrap_or(Pairing::OtherSpitz);
+    let mut faults = choose_faults(rng, pairing, count);
+    if faults.contains(&ManyQuarters) && rng.chance(80) {
+        faults = vec![List];
+    }
+    if faults.is_empty() && rng.chance(20) {
+        faults = vec![rng.pick(&[Late, List, QuarterField])];
+    }
+    let dirty = rng.chance(60);
+    let mut plant = make_plant(rng, pairing, side, dirty, &faults);
+    let mut measure = make_measure(rng, &plant, pairing, side.2, dirty, &faults, Size::Any);
+    if faults.is_empty() && rng.chance(10) {
+        // Without the record there may be no quarter.
+        measure.quarters.truncate(1);
+    }
+    if pairing == Pairing::SolarSpitz && faults.is_empty() && rng.chance(20) {
+        // B is 0 without the last before-quarter.
+        measure.before.iter_mut().for_each(|one| one.weather = 0);
+        let last = measure.before.last_mut();
+        last.into_iter().for_each(|one| (one.mark, one.measured, one.weather) = (1, 300_000, 500));
+    }
+    if faults == [Late] && measure.quarters.len() > 1 && rng.chance(60) {
+        // Only the last quarter is past the calendar's end.
+        measure.first = (LAST.0 + 2 - measure.quarters.len() as u64) as u32;
+    }
+    let count = measure.quarters.len();
+
+    // The record is taken off the sheet before that is filed.
+    let noise = rng.chance(70);
+    let mut more = rng.pick(MORE);
+    if filings.contains(&Filing::RecordLinks) {
+        more = rng.pick(&[NewMeasure, NewPlant]);
+    }
+    let off = match more {
+        OwnQuarter => measure.quarters.pop().map(|quarter| quarter_record(&quarter, rng, noise)),
+        OwnBefore => measure.before.pop().map(|before| before_record(&before, rng, noise)),
+        OwnPoint => plant.curve.pop().map(|point| point_record(&point, rng, noise)),
+        NewMeasure => {
+            let other = Measure { before: vec![], quarters: vec![], ..measure.clone() };
+            Some(measure_record(&other, rng, noise))
+        }
+        NewPlant => Some(plant_record(&plant, rng, noise)),
+        Elsewhere => None,
+    };
+    let at_measure = rng.pick(&[0, 0, 0, 1, 2]);
+    for at in 0..at_measure + 1 + rng.below(2) {
+        let next = if at == at_measure {
+            measure.clone()
+        } else {
+            let direction = rng.range(0, 3) as u8;
+            make_measure(rng, &plant, pairing, direction, dirty, &[], Size::Small)
+        };
+        plant.measures.push(next);
+    }
+    let at_plant = rng.pick(&[0, 0, 0, 1, 2]);
+    let mut plants = Vec::new();
+    for at in 0..at_plant + 1 + rng.below(2) {
+        plants.push(if at == at_plant { plant.clone() } else { company(rng, dirty) });
+    }
+    let mut layout = layout(rng);
+    layout.spare = if filings.contains(&Filing::Full) { 0 } else { layout.spare.max(1) };
+    let mut filed = file(&plants, &layout, rng);
+    if rng.below(25) == 0 {
+        let used = rng.pick(&[255, 255, 255, 256, 256, 257, 511, 512]);
+        pad(rng, &mut filed, used);
+    }
+
+    // The owner and its chain.
+    let own = &filed.plants[at_plant];
+    let inner = &own.measures[at_measure];
+    let mut others = Vec::new();
+    for plant in &filed.plants {
+        let numbers: Vec<u64> = plant.measures.iter().map(|measure| measure.number).collect();
+        if plant.number != own.number {
+            others.push(fields(plant.number, FIRST, POINT, &plant.curve));
+            others.push(fields(plant.number, SECOND, MEASURE, &numbers));
+        }
+        for measure in plant.measures.iter().filter(|measure| measure.number != inner.number) {
+            others.push(fields(measure.number, FIRST, BEFORE, &measure.before));
+            others.push(fields(measure.number, SECOND, QUARTER, &measure.quarters));
+        }
+    }
+    let plant_numbers: Vec<u64> = filed.plants.iter().map(|plant| plant.number).collect();
+    let measure_numbers: Vec<u64> = own.measures.iter().map(|measure| measure.number).collect();
+    let (mut record, chain) = match (more, off) {
+        (OwnQuarter, Some(record)) => (record.to_vec(), fields(inner.number, SECOND, QUARTER, &inner.quarters)),
+        (OwnBefore, Some(record)) => (record.to_vec(), fields(inner.number, FIRST, BEFORE, &inner.before)),
+        (OwnPoint, Some(record)) => (record.to_vec(), fields(own.number, FIRST, POINT, &own.curve)),
+        (NewMeasure, Some(record)) => (record.to_vec(), fields(own.number, SECOND, MEASURE, &measure_numbers)),
+        (NewPlant, Some(record)) => (record.to_vec(), fields(0, FIRST, PLANT, &plant_numbers)),
+        _ if others.is_empty() => {
+            more = NewPlant;
+            (any_record(rng, PLANT), fields(0, FIRST, PLANT, &plant_numbers))
+        }
+        _ => {
+            more = Elsewhere;
+            let chain = others.swap_remove(rng.below(others.len()));
+            let record = match chain[0].kind {
+                QUARTER => {
+                    let one = quarter(rng, &plant, pairing, 1, measure.first, 0, dirty);
+                    quarter_record(&one, rng, noise).to_vec()
+                }
+                BEFORE => {
+                    let weather = if side.0 == 1 { speed(rng, &plant.curve) } else { irradiance(rng) };
+                    let one = Before { mark: rng.below(2) as u8, measured: power(rng, plant.nominal), weather };
+                    before_record(&one, rng, noise).to_vec()
+                }
+                kind => any_record(rng, kind),
+            };
+            (record, chain)
+        }
+    };
+    let (owner, kind) = (chain[0].owner, record[0]);
+
+    // The places.
+    let (mut p, mut k) = (at_plant as u64 + 1, at_measure as u64 + 1);
+    let (plant_count, measure_count) = (plant_numbers.len() as u64, measure_numbers.len() as u64);
+    let new_settled = matches!(more, NewMeasure | NewPlant) && rng.chance(50);
+    if new_settled && more == NewMeasure {
+        k = measure_count + 1;
+    } else if new_settled {
+        p = plant_count + 1;
+    }
+    if faults.contains(&NoPlant) {
+        p = missing_place(rng, plant_count);
+    }
+    if faults.contains(&NoMeasure) {
+        k = missing_place(rng, measure_count);
+    }
+    let broken = faults.iter().any(|fault| matches!(fault, Length | Text | Used | Link(_) | Kind(_)));
+    let mut expected = match (&filings[..], &faults[..]) {
+        ([], []) if new_settled && kind == PLANT => Some(5),
+        ([], []) if new_settled => Some(if uses_before(pairing) { 11 } else { 8 }),
+        ([], []) => Some(0),
+        ([], _) if broken || new_settled || (more == NewPlant || more == NewMeasure) => None,
+        ([], [fault]) => Some(fault.number()),
+        ([], [other, Late] | [Late, other]) => Some(if other.number() == 13 { 18 } else { other.number() }),
+        ([Filing::Head], _) => Some(1),
+        ([filing], _) if !broken => Some(filing.number()),
+        _ => None,
+    };
+
+    // Links that this pairing doesn't need hold any four bytes, where append doesn't follow them either.
+    if dirty && rng.chance(30) && matches!(more, OwnQuarter | Elsewhere) {
+        let (own, inner) = (own.number, inner.number);
+        if pairing != Pairing::WindSpitz {
+            let noise = any(rng) as u32;
+            filed.set_link(own, FIRST, noise);
+        }
+        if !uses_before(pairing) {
+            let noise = any(rng) as u32;
+            filed.set_link(inner, FIRST, noise);
+        }
+    }
+    for &fault in &faults {
+        match fault {
+            Link(chain) => {
+                let fields = chain_fields(&filed, chain, at_plant, at_measure, p, k);
+                break_link(rng, &mut filed, &fields);
+            }
+            Kind(chain) => {
+                let fields = chain_fields(&filed, chain, at_plant, at_measure, p, k);
+                break_kind(rng, &mut filed, &fields);
+            }
+            _ => {}
+        }
+    }
+    if filings.contains(&Filing::Link) {
+        break_link(rng, &mut filed, &chain);
+    }
+    if filings.contains(&Filing::Kind) && !break_kind(rng, &mut filed, &chain) {
+        expected = None;
+    }
+    if rng.chance(if more == Elsewhere { 40 } else { 12 }) {
+        stale_link(rng, &mut filed, at_plant, at_measure, kind);
+        expected = None;
+    }
+    let call_owner = wrong_owner(rng, &mut filed, kind, owner, &filings);
+    if !filings.contains(&Filing::OwnerUnused) {
+        old_bytes(rng, &mut filed, &record);
+    }
+    wrong_record(rng, &mut record, &filings);
+    if rng.below(12) == 0 {
+        (p, k) = (rng.below(4) as u64, rng.below(4) as u64);
+        expected = expected.filter(|_| filings.len() == 1);
+    }
+    match mode {
+        950..=974 => {
+            mutate(rng, &mut filed.bytes);
+            expected = None;
+        }
+        975..=989 => {
+            share(rng, &mut filed);
+            expected = None;
+        }
+        _ => {}
+    }
+    let head = faults.iter().copied().find(|fault| matches!(fault, Length | Text | Used));
+    let filed_head = filings.contains(&Filing::Head).then(|| rng.pick(&[Length, Text, Used]));
+    if let Some(fault) = head.or(filed_head) {
+        break_head(rng, &mut filed, fault);
+    }
+    let (list, result) = list_and_result(rng, count, &faults);
+    Case { call: Call::Preview { archive: filed.bytes, owner: call_owner, record, p, k, list, result }, expected }
 }
 
 // ---------------------------------------------------------------------------------------------------------------

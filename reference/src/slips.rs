@@ -1,9 +1,11 @@
-//! Wrong readings of document 01 and of requests 1 to 3 and 5, one at a time. A generated call reaches a situation if
-//! the wrong reading gives another outcome there than the right one; an example on the pages shows it in the same way.
+//! Wrong readings of document 01 and of requests 1 to 3, 5 and 6, one at a time. A generated call reaches a situation
+//! if the wrong reading gives another outcome there than the right one; an example on the pages shows it in the same
+//! way.
 //! With `Slip::None` every call gives what the plain modules give.
 
 use crate::archive::*;
 use crate::calendar::{days_of_month, next_month, LAST};
+use crate::filing::names;
 use crate::settle::{curve_power, Pairing, CURVE_POWER, IRRADIANCE, NOMINAL, NONE, OCTOBER, POWER, SPEED};
 use std::ops::RangeInclusive;
 
@@ -18,6 +20,7 @@ pub enum Of {
     DeliveryDay,
     TakeBack,
     Correction,
+    Preview,
     Program,
 }
 
@@ -318,6 +321,77 @@ slips! {
         CentsPriceNarrow Correction "120" "prices cut to 32 bits"
         CentsWritten Correction "121" "cents set to 0 on a refusal"
         CentsRemainderWritten Correction "121" "remainder set to 0 on a refusal"
+        PreviewSettleFirst Preview "126!" "settle's refusals before append's where both refuse"
+        PreviewPlacesFirst Preview "126!" "4 and 5 before append's refusals"
+        PreviewResultFirst Preview "130" "length of the result part tested before append's refusals"
+        PreviewResultSecond Preview "130" "length of the result part tested directly behind append's refusals"
+        PreviewLongRecord Preview "02, 6" "of a longer record the first 32 bytes taken"
+        PreviewListFirst Preview "126!" "a list too short for the quarters filed so far is 13 before append's refusals"
+        PreviewUnfiled Preview "126!" "where append refuses, settle without the record"
+        PreviewNoFourteen Preview "126!" "14 left out: settle without the record"
+        PreviewNoFifteen Preview "126!" "15 left out: settle without the record"
+        PreviewNoTwo Preview "126!" "append's 2 left out: settle without the record"
+        PreviewNoThree Preview "126!" "append's 3 left out: settle without the record"
+        PreviewFullNothing Preview "124!" "16 left out: settle without the record"
+        PreviewFullRoom Preview "124!" "16 left out: the copy has one record more"
+        PreviewFullLast Preview "124!" "16 behind settle's refusals"
+        PreviewFullFirst Preview "124!" "16 directly behind 1"
+        PreviewSound Preview "129!" "an archive that audit refuses has audit's number"
+        PreviewSoundAfter Preview "129!" "audit's number if audit refuses the archive with the record"
+        PreviewStaleLink Preview "129!" "2 if another link is U already"
+        PreviewStalePlace Preview "128!" "16 if the bytes of place U aren't 0"
+        PreviewOwnMeasure Preview "125" "15 unless the owner is the measure that is settled"
+        PreviewQuartersOnly Preview "125" "14 for another kind than 5"
+        PreviewBeforeRefused Preview "02, 6" "refused where the measure doesn't settle without the record"
+        PreviewRanges Preview "02, 6" "a new quarter with month 0 or above 12 is 9"
+        PreviewNarrowOwner Preview "02, 6" "owner cut to 32 bits"
+        PreviewNarrowPlant Preview "02, 6" "p cut to 32 bits"
+        PreviewNarrowMeasure Preview "02, 6" "k cut to 32 bits"
+        PreviewOwnerIgnored Preview "125" "filed under plant p or its measure k, whatever the owner"
+        PreviewPlacesIgnored Preview "125" "owner settled if it is a measure, whatever p and k"
+        PreviewBefore Preview "02, 6" "settled without the record"
+        PreviewPlacesBefore Preview "125" "p and k looked up before the record is filed"
+        PreviewOldUsed Preview "02, 6" "links tested against U as it was"
+        PreviewFront Preview "02, 6" "a new quarter taken for the first of its chain"
+        PreviewLatest Preview "02, 6" "a new before-quarter taken for the first of its chain, the latest"
+        PreviewFieldsUntested Preview "02, 6" "fields of the new quarter not tested"
+        PreviewLateBefore Preview "02, 6" "18 tested without the new quarter"
+        PreviewMostQuarters Preview "02, 6" "a 2,977th quarter accepted"
+        PreviewMostBefore Preview "02, 6" "a 97th before-quarter accepted"
+        PreviewListBefore Preview "02, 6" "list need only hold the quarters filed so far"
+        PreviewResultLonger Preview "130" "longer result part accepted"
+        PreviewCountBefore Preview "02, 6" "count without the record"
+        PreviewTotalBefore Preview "02, 6" "total without the record"
+        PreviewLinksBefore Preview "02, 6" "links without the record"
+        PreviewLinkAlways Preview "125" "a link counted for the record, whatever its chain"
+        PreviewRoundEach Preview "02, 6" "each quarter rounded by itself"
+        PreviewNewAlone Preview "02, 6" "new quarter rounded by itself"
+        PreviewNewFirst Preview "02, 6" "new quarter's amount alone given, in the first place"
+        PreviewNewPlace Preview "02, 6" "only the new quarter's place written"
+        PreviewDifference Preview "02, 6" "what the total grows by given as the total"
+        PreviewListZeroed Preview "02, 6" "list zeroed on a refusal of settle"
+        PreviewListZeroedAppend Preview "02, 6" "list zeroed on a refusal of append"
+        PreviewListBeforeAppend Preview "02, 6" "list filled without the record on a refusal of append"
+        PreviewListPartly Preview "02, 6" "a list that is 13 filled as far as it goes"
+        PreviewListWritten Preview "130" "list written before the result part is tested"
+        PreviewResultZeroed Preview "130" "result part zeroed on a refusal of settle"
+        PreviewResultZeroedAppend Preview "130" "result part zeroed on a refusal of append"
+        PreviewFiled Preview "127!" "record filed for good"
+        PreviewFiledGood Preview "127!" "record filed for good where the measure settles"
+        PreviewFiledRefused Preview "127!" "record filed for good where settle refuses"
+        PreviewRecordLeft Preview "128!" "record left at its place"
+        PreviewLinkLeft Preview "128!" "link to the record left"
+        PreviewUsedLeft Preview "128!" "U left raised"
+        PreviewZeroed Preview "128!" "place zeroed"
+        PreviewZeroedRefused Preview "128!" "place zeroed where settle refuses"
+        PreviewKnownBytes Preview "128!" "bytes 24-31 of the place left as the record's"
+        PreviewHalf Preview "128!" "bytes 16-31 of the place left as the record's"
+        PreviewUnusedZeroed Preview "128!" "all unused records zeroed"
+        PreviewTakenBack Preview "128!" "undone by taking back, whether that is refused or not"
+        PreviewNineteen Preview "128!" "undone by taking back, and 19 where that is refused"
+        PreviewNamesZeroed Preview "129!" "every link to the record zeroed"
+        PreviewLinkByte Preview "128!" "only the low byte of the link zeroed"
+        PreviewUsedByte Preview "128!" "only the low byte of U set back"
         LowerGoesOn Program "75!" "2 or 3 below a measure leads on to the next measure"
         FixedStore Program "81!" "no more Q lines than 2,048 records"
         SixSkips Program "79" "6 leads on to the next plant"
@@ -2612,6 +2686,355 @@ pub fn correction(
             number
         }
     }
+}
+
+/// Count, total and links.
+type Results = [i64; 3];
+
+/// The three numbers of a result part.
+fn results(part: &[u8]) -> Results {
+    [0, 8, 16].map(|at| i64::from_le_bytes(part[at..at + 8].try_into().expect("8 bytes")))
+}
+
+/// The number of measure k of plant p.
+fn measure_at(archive: &[u8], p: u64, k: u64) -> Option<u64> {
+    let used = head(Slip::None, archive).ok()?;
+    let plant = place(archive, used, 0, FIRST, PLANT, p, 4).ok()?;
+    place(archive, used, plant, SECOND, MEASURE, k, 5).ok()
+}
+
+/// A preview's arguments and one slip; list and result part as they were lent.
+struct Ahead<'a> {
+    slip: Slip,
+    archive: &'a [u8],
+    owner: u64,
+    new: &'a [u8],
+    p: u64,
+    k: u64,
+    list: &'a [u8],
+    result: &'a [u8],
+}
+
+impl Ahead<'_> {
+    fn is(&self, other: Slip) -> bool {
+        self.slip == other
+    }
+
+    /// Owner and places as the slip takes them.
+    fn arguments(mut self) -> Self {
+        match self.slip {
+            Slip::PreviewNarrowOwner => self.owner &= 0xffff_ffff,
+            Slip::PreviewNarrowPlant => self.p &= 0xffff_ffff,
+            Slip::PreviewNarrowMeasure => self.k &= 0xffff_ffff,
+            Slip::PreviewLongRecord if self.new.len() > RECORD => self.new = &self.new[..RECORD],
+            Slip::PreviewOwnerIgnored => {
+                if let (Ok(used), Some(&kind)) = (head(Slip::None, self.archive), self.new.first()) {
+                    let plant = place(self.archive, used, 0, FIRST, PLANT, self.p, 4).ok();
+                    let own = match kind {
+                        PLANT => Some(0),
+                        POINT | MEASURE => plant,
+                        _ => measure_at(self.archive, self.p, self.k),
+                    };
+                    self.owner = own.unwrap_or(self.owner);
+                }
+            }
+            Slip::PreviewPlacesIgnored => {
+                if let Some((p, k)) = self.place_of_owner() {
+                    (self.p, self.k) = (p, k);
+                }
+            }
+            _ => {}
+        }
+        self
+    }
+
+    /// Where the owner stands as a measure.
+    fn place_of_owner(&self) -> Option<(u64, u64)> {
+        let used = head(Slip::None, self.archive).ok()?;
+        let plants = chain(self.archive, used, 0, FIRST, PLANT).ok()?;
+        for (p, plant) in (1..).zip(plants) {
+            let measures = chain(self.archive, used, plant, SECOND, MEASURE).unwrap_or_default();
+            if let Some(at) = measures.iter().position(|&measure| measure == self.owner) {
+                return Some((p, at as u64 + 1));
+            }
+        }
+        None
+    }
+
+    /// Settle with a slip, on list and result part as they were lent.
+    fn settled(&self, slip: Slip, archive: &[u8]) -> (Refusal, Vec<u8>, Vec<u8>) {
+        let (mut list, mut result) = (self.list.to_vec(), self.result.to_vec());
+        (host_settle(slip, archive, self.p, self.k, &mut list, &mut result), list, result)
+    }
+
+    /// Settle without the record, whatever the result part.
+    fn without(&self) -> (Refusal, Results, Vec<u8>) {
+        let (mut list, mut result) = (self.list.to_vec(), [0; 24]);
+        let number = host_settle(Slip::None, self.archive, self.p, self.k, &mut list, &mut result);
+        (number, results(&result), list)
+    }
+
+    fn used(&self) -> usize {
+        link(self.archive, 4) as usize
+    }
+
+    /// The archive that is settled, or what is refused before that.
+    fn filed(&self) -> Result<Vec<u8>, Refusal> {
+        if self.is(Slip::PreviewResultFirst) {
+            test(self.result.len() == 24, 13)?;
+        }
+        if self.is(Slip::PreviewListFirst) {
+            test(self.without().0 != 13, 13)?;
+        }
+        let mut later = self.archive.to_vec();
+        let by = if self.is(Slip::PreviewFullFirst) { Slip::FullAtOnce } else { self.slip };
+        let number = append(by, &mut later, self.owner, self.new);
+        match (self.slip, number) {
+            (_, 0) => {}
+            (Slip::PreviewUnfiled, _)
+            | (Slip::PreviewNoFourteen, 14)
+            | (Slip::PreviewNoFifteen, 15)
+            | (Slip::PreviewNoTwo, 2)
+            | (Slip::PreviewNoThree, 3)
+            | (Slip::PreviewFullNothing, 16) => return Ok(self.archive.to_vec()),
+            (Slip::PreviewFullRoom | Slip::PreviewFullLast, 16) => {
+                later.extend([0; RECORD]);
+                test(append(Slip::None, &mut later, self.owner, self.new) == 0, 16)?;
+                let settled = self.settled(Slip::None, &later).0;
+                test(self.is(Slip::PreviewFullRoom), if settled == 0 { 16 } else { settled })?;
+                return Ok(later);
+            }
+            (Slip::PreviewSettleFirst, _) => {
+                let settled = self.settled(Slip::None, self.archive).0;
+                return Err(if settled == 0 { number } else { settled });
+            }
+            (Slip::PreviewPlacesFirst, _) => {
+                let settled = self.without().0;
+                return Err(if matches!(settled, 4 | 5) { settled } else { number });
+            }
+            _ => return Err(number),
+        }
+        self.more_tests(&later)?;
+        match self.slip {
+            Slip::PreviewBefore => later.copy_from_slice(self.archive),
+            Slip::PreviewOldUsed => later[4..8].copy_from_slice(&self.archive[4..8]),
+            Slip::PreviewFront if self.new[0] == QUARTER => self.to_front(&mut later, SECOND),
+            Slip::PreviewLatest if self.new[0] == BEFORE => self.to_front(&mut later, FIRST),
+            _ => {}
+        }
+        Ok(later)
+    }
+
+    /// Refusals between append's and settle's that there are none of.
+    fn more_tests(&self, later: &[u8]) -> Result<(), Refusal> {
+        let sound = |archive: &[u8]| {
+            let number = audit(Slip::None, archive);
+            test(number == 0, number)
+        };
+        match self.slip {
+            Slip::PreviewResultSecond => test(self.result.len() == 24, 13),
+            Slip::PreviewSound => sound(self.archive),
+            Slip::PreviewSoundAfter => sound(later),
+            Slip::PreviewStaleLink => {
+                let used = self.used() as u64;
+                test(names(self.archive, used, used).is_empty(), 2)
+            }
+            Slip::PreviewStalePlace => test(record(self.archive, self.used() as u64).iter().all(|&byte| byte == 0), 16),
+            Slip::PreviewOwnMeasure => test(measure_at(later, self.p, self.k) == Some(self.owner), 15),
+            Slip::PreviewQuartersOnly => test(self.new[0] == QUARTER, 14),
+            Slip::PreviewBeforeRefused => {
+                let number = self.without().0;
+                test(number == 0, number)
+            }
+            Slip::PreviewRanges => test(self.new[0] != QUARTER || (1..=12).contains(&self.new[1]), 9),
+            Slip::PreviewPlacesBefore => {
+                let used = head(Slip::None, self.archive)?;
+                let plant = place(self.archive, used, 0, FIRST, PLANT, self.p, 4)?;
+                place(self.archive, used, plant, SECOND, MEASURE, self.k, 5).map(|_| ())
+            }
+            _ => Ok(()),
+        }
+    }
+
+    /// Hands the contents of a chain on, so that the last record's stand in the first one.
+    fn to_front(&self, later: &mut [u8], first: usize) {
+        let used = self.used() as u64 + 1;
+        if let Ok(numbers) = chain(later, used, self.owner, first, self.new[0]) {
+            for pair in numbers.windows(2).rev() {
+                let [a, b] = [pair[0], pair[1]].map(|number| number as usize * RECORD);
+                for at in (0..NEXT).chain(FIRST..RECORD) {
+                    later.swap(a + at, b + at);
+                }
+            }
+        }
+    }
+
+    /// Whether the new record is the last quarter of the measure that is settled.
+    fn is_last_quarter(&self, filed: &[u8]) -> bool {
+        let (new, used) = (self.used() as u64, link(filed, 4));
+        measure_at(filed, self.p, self.k)
+            .and_then(|measure| chain(filed, used, measure, SECOND, QUARTER).ok())
+            .map_or(false, |numbers| numbers.last() == Some(&new))
+    }
+
+    /// What settle of the archive with the record gives.
+    fn given(&self, filed: &[u8]) -> (Refusal, Vec<u8>, Vec<u8>) {
+        let by = match self.slip {
+            Slip::PreviewMostQuarters => Slip::QuartersMore,
+            Slip::PreviewMostBefore => Slip::BeforeMore,
+            Slip::PreviewRoundEach => Slip::RoundEach,
+            Slip::PreviewResultLonger => Slip::ResultLonger,
+            Slip::PreviewListWritten => Slip::ListWritten,
+            other => other,
+        };
+        let mut given = self.settled(by, filed);
+        match (self.slip, given.0) {
+            (Slip::PreviewFieldsUntested, 9) if self.without().0 == 0 => {
+                given = self.settled(Slip::FirstQuarterOnly, filed);
+            }
+            (Slip::PreviewLateBefore, 18) if self.without().0 == 0 => given = self.settled(Slip::LateFirstOnly, filed),
+            (Slip::PreviewListBefore, 13) if self.without().0 == 0 => given = self.settled(Slip::ListUntested, filed),
+            (Slip::PreviewListPartly, 13) => given.1 = self.settled(Slip::ListUntested, filed).1,
+            (Slip::PreviewListZeroed, 1..) => given.1.fill(0),
+            (Slip::PreviewResultZeroed, 1..) => given.2.fill(0),
+            (_, 0) => self.other_results(filed, &mut given.1, &mut given.2),
+            _ => {}
+        }
+        given
+    }
+
+    /// Other results and another list where nothing is refused.
+    fn other_results(&self, filed: &[u8], list: &mut [u8], result: &mut [u8]) {
+        let [mut count, mut total, mut links] = results(result);
+        let without = || self.without();
+        let last = || {
+            let at = 8 * (count as usize - 1);
+            let is_new = self.is_last_quarter(filed);
+            is_new.then(|| (at, i64::from_le_bytes(list[at..at + 8].try_into().expect("8 bytes"))))
+        };
+        match self.slip {
+            Slip::PreviewCountBefore => count -= i64::from(last().is_some()),
+            Slip::PreviewTotalBefore => total -= last().map_or(0, |(_, amount)| amount),
+            Slip::PreviewLinksBefore => {
+                links = match without() {
+                    (0, [_, _, links], _) => links,
+                    _ => links - 1,
+                }
+            }
+            Slip::PreviewLinkAlways => {
+                let (number, before, _) = without();
+                links += i64::from(number == 0 && before[2] == links);
+            }
+            Slip::PreviewDifference => {
+                if let (0, [_, before, _], _) = without() {
+                    total -= before;
+                }
+            }
+            Slip::PreviewNewAlone => {
+                if let Some((at, amount)) = last() {
+                    let alone = &self.settled(Slip::RoundEach, filed).1[at..at + 8];
+                    list[at..at + 8].copy_from_slice(alone);
+                    total += i64::from_le_bytes(alone.try_into().expect("8 bytes")) - amount;
+                }
+            }
+            Slip::PreviewNewFirst => {
+                if let Some((_, amount)) = last() {
+                    list.copy_from_slice(self.list);
+                    list[..8].copy_from_slice(&amount.to_le_bytes());
+                    (count, total) = (1, amount);
+                }
+            }
+            Slip::PreviewNewPlace => {
+                if let Some((at, _)) = last() {
+                    list[..at].copy_from_slice(&self.list[..at]);
+                }
+            }
+            _ => return,
+        }
+        for (part, number) in result.chunks_exact_mut(8).zip([count, total, links]) {
+            part.copy_from_slice(&number.to_le_bytes());
+        }
+    }
+
+    /// The archive after the call.
+    fn left(&self, number: Refusal) -> Vec<u8> {
+        let (mut left, mut later) = (self.archive.to_vec(), self.archive.to_vec());
+        let (start, last_link) = match append_place(Slip::None, self.archive, self.owner, self.new) {
+            Ok((used, holder, at)) => (used as usize * RECORD, holder as usize * RECORD + at),
+            Err(_) => return left,
+        };
+        append(Slip::None, &mut later, self.owner, self.new);
+        let all = left.len();
+        let kept = match self.slip {
+            Slip::PreviewFiled => 0..all,
+            Slip::PreviewFiledGood if number == 0 => 0..all,
+            Slip::PreviewFiledRefused if number != 0 => 0..all,
+            Slip::PreviewRecordLeft => start..start + RECORD,
+            Slip::PreviewKnownBytes => start + 24..start + RECORD,
+            Slip::PreviewHalf => start + 16..start + RECORD,
+            Slip::PreviewLinkLeft => last_link..last_link + 4,
+            Slip::PreviewLinkByte => last_link + 1..last_link + 4,
+            Slip::PreviewUsedLeft => 4..8,
+            Slip::PreviewUsedByte => 5..8,
+            Slip::PreviewTakenBack | Slip::PreviewNineteen => {
+                take_back(Slip::None, &mut later);
+                0..all
+            }
+            _ => 0..0,
+        };
+        left[kept.clone()].copy_from_slice(&later[kept]);
+        match self.slip {
+            Slip::PreviewZeroed => left[start..start + RECORD].fill(0),
+            Slip::PreviewZeroedRefused if number != 0 => left[start..start + RECORD].fill(0),
+            Slip::PreviewUnusedZeroed => left[start..].fill(0),
+            Slip::PreviewNamesZeroed => {
+                let new = (start / RECORD) as u64;
+                for (holder, at) in names(&later, new + 1, new) {
+                    left[holder as usize * RECORD + at..][..4].fill(0);
+                }
+            }
+            _ => {}
+        }
+        left
+    }
+}
+
+/// The preview with one slip, of the preview, of append or of settle, as the host calls it.
+#[allow(clippy::too_many_arguments)]
+pub fn preview(
+    slip: Slip,
+    archive: &mut [u8],
+    owner: u64,
+    new: &[u8],
+    p: u64,
+    k: u64,
+    list: &mut [u8],
+    result: &mut [u8],
+) -> Refusal {
+    let call = Ahead { slip, archive, owner, new, p, k, list, result }.arguments();
+    let filed = call.filed();
+    let (mut number, mut later_list, mut later_result) = match &filed {
+        Ok(filed) => call.given(filed),
+        Err(number) => (*number, call.list.to_vec(), call.result.to_vec()),
+    };
+    if filed.is_err() {
+        match slip {
+            Slip::PreviewListZeroedAppend => later_list.fill(0),
+            Slip::PreviewListBeforeAppend => later_list = call.without().2,
+            Slip::PreviewResultZeroedAppend => later_result.fill(0),
+            _ => {}
+        }
+    }
+    if let (Slip::PreviewNineteen, Ok(filed)) = (slip, &filed) {
+        if take_back(Slip::None, &mut filed.clone()) == 19 {
+            (number, later_list, later_result) = (19, call.list.to_vec(), call.result.to_vec());
+        }
+    }
+    let left = call.left(number);
+    archive.copy_from_slice(&left);
+    list.copy_from_slice(&later_list);
+    result.copy_from_slice(&later_result);
+    number
 }
 
 /// The program's lines with one slip, of the program or of settle.

@@ -1,5 +1,5 @@
 //! Document 01's own figures and examples, request 1's dates, request 2's taking back, request 3's readings, request
-//! 5's correction, `fast` and the slips against the plain modules, and read-back.
+//! 5's correction, request 6's preview, `fast` and the slips against the plain modules, and read-back.
 
 use crate::archive::{link, record, used, FIRST, NEXT, RECORD, SECOND};
 use crate::builder::*;
@@ -10,8 +10,8 @@ use crate::settle::{curve_power, factor};
 use crate::sha256::sha256;
 use crate::slips::{self, Of, Slip, FURTHER, SLIPS};
 use crate::{
-    append, audit, correction, delivery_day, fast, fresh, host_correction, host_delivery_day, host_settle, program,
-    settle, show, take_back,
+    append, audit, correction, delivery_day, fast, fresh, host_correction, host_delivery_day, host_preview,
+    host_settle, preview, program, settle, show, take_back,
 };
 use crate::{filing, Answer};
 
@@ -1047,6 +1047,315 @@ fn settled_and_corrected() {
     assert_eq!(corrected(&list[..1], &[0], &[0]), Err(20));
 }
 
+/// A list of six places and a few bytes more, and a result part, as they are lent to a preview.
+const LENT: ([u8; 53], [u8; 24]) = ([0xee; 53], [0xdd; 24]);
+
+/// A call on archive, list and result part.
+type LentCall<'a> = &'a dyn Fn(&mut [u8], &mut [u8], &mut [u8]) -> u32;
+
+/// A preview on bytes, the same in all implementations: number, list and result part. The archive stays, and on a
+/// refusal list and result part too.
+fn previewed(
+    archive: &[u8],
+    owner: u64,
+    new: &[u8],
+    (p, k): (u64, u64),
+    list: &[u8],
+    result: &[u8],
+) -> (u32, Vec<u8>, Vec<u8>) {
+    let run = |call: LentCall| {
+        let (mut lent, mut list, mut result) = (archive.to_vec(), list.to_vec(), result.to_vec());
+        let number = call(&mut lent, &mut list, &mut result);
+        assert!(lent == archive, "the archive stays");
+        (number, list, result)
+    };
+    let plain = run(&|archive, list, result| host_preview(archive, owner, new, p, k, list, result));
+    assert_eq!(plain, run(&|archive, list, result| fast::host_preview(archive, owner, new, p, k, list, result)));
+    let slip = |archive: &mut [u8], list: &mut [u8], result: &mut [u8]| {
+        slips::preview(Slip::None, archive, owner, new, p, k, list, result)
+    };
+    assert_eq!(plain, run(&slip));
+    if plain.0 != 0 {
+        assert_eq!((&plain.1[..], &plain.2[..]), (list, result));
+    }
+
+    // Append and then settle on a copy.
+    let mut copy = archive.to_vec();
+    let number = append(&mut copy, owner, new);
+    let settled = run(&|_, list, result| match number {
+        0 => host_settle(&copy, p, k, list, result),
+        _ => number,
+    });
+    assert_eq!(plain, settled);
+
+    // The calls on numbers say the same.
+    if result.len() == 24 {
+        let numbers = |list: &[u8]| -> Vec<i64> {
+            list.chunks_exact(8).map(|place| i64::from_le_bytes(place.try_into().unwrap())).collect()
+        };
+        let (mut own, mut other, mut lent) = (numbers(list), numbers(list), archive.to_vec());
+        let answer = preview(archive, owner, new, p, k, &mut own);
+        assert_eq!(answer, fast::preview(&mut lent, owner, new, p, k, &mut other));
+        assert!(lent == archive && own == other && own == numbers(&plain.1));
+        let parts = [answer.count, answer.total as u64, answer.links].map(u64::to_le_bytes).concat();
+        match answer.number {
+            0 => assert_eq!(plain.2, parts),
+            number => assert_eq!((answer, plain.0), (Answer::refused(number), number)),
+        }
+    }
+    plain
+}
+
+/// The same with the usual list and result part: amounts, total and links, or the refusal.
+fn ahead(archive: &[u8], owner: u64, new: &[u8], places: (u64, u64)) -> Result<(Vec<i64>, i64, u64), u32> {
+    let (number, list, result) = previewed(archive, owner, new, places, &LENT.0, &LENT.1);
+    if number != 0 {
+        return Err(number);
+    }
+    let value = |bytes: &[u8]| i64::from_le_bytes(bytes.try_into().unwrap());
+    let count = value(&result[..8]) as usize;
+    assert!(list[8 * count..].iter().all(|&byte| byte == 0xee), "later places and ragged bytes stay");
+    let amounts = list.chunks_exact(8).take(count).map(value).collect();
+    Ok((amounts, value(&result[8..16]), value(&result[16..]) as u64))
+}
+
+/// Case a but for its last quarter, with two unused records of old bytes: 1 the plant, 2 the measure, 3 the
+/// before-quarter, 4 and 5 the quarters.
+fn two_of_three() -> (Filed, [u8; RECORD]) {
+    let mut sheet = case_a();
+    let last = sheet.measures[0].quarters.pop().unwrap();
+    let filed = file(&[sheet], &Layout { spare: 2, noise: true, ..Layout::PLAIN }, &mut quiet());
+    assert!(filed.used == 6 && record(&filed.bytes, 6) != [0; RECORD]);
+    (filed, quarter_record(&last, &mut quiet(), true))
+}
+
+#[test]
+fn preview_examples() {
+    let (filed, last) = two_of_three();
+    let a = (vec![74_999, 75_000, 75_000], 224_999, 6);
+    let filed_so_far = (vec![74_999, 75_000], 149_999, 5);
+    assert_eq!(ahead(&filed.bytes, 2, &last, (1, 1)), Ok(a.clone()));
+    // Without it, and with it filed.
+    let mut list = [0; 3];
+    assert_eq!(settle(&filed.bytes, 1, 1, &mut list), Answer { number: 0, count: 2, total: 149_999, links: 5 });
+    let mut archive = filed.bytes.clone();
+    assert_eq!(append(&mut archive, 2, &last), 0);
+    assert_eq!(settle(&archive, 1, 1, &mut list), Answer { number: 0, count: 3, total: 224_999, links: 6 });
+
+    // A full archive, though the record would settle.
+    assert_eq!(ahead(&filed.bytes[..6 * RECORD], 2, &last, (1, 1)), Err(16));
+    // Every kind, for this measure or another one.
+    let rng = &mut quiet();
+    let marked = before_record(&before(900_000, 0), rng, true);
+    assert_eq!(ahead(&filed.bytes, 2, &marked, (1, 1)), Ok((vec![74_999, 75_000], 149_999, 6)));
+    let new_point = point_record(&point(30, 5), rng, true);
+    assert_eq!(ahead(&filed.bytes, 1, &new_point, (1, 1)), Ok(filed_so_far.clone()));
+    let new_measure = measure_record(&case_a().measures[0], rng, true);
+    assert_eq!(ahead(&filed.bytes, 1, &new_measure, (1, 1)), Ok(filed_so_far.clone()));
+    assert_eq!(ahead(&filed.bytes, 1, &new_measure, (1, 2)), Err(11));
+    assert_eq!(ahead(&filed.bytes, 1, &new_measure, (1, 3)), Err(5));
+    let new_plant = plant_record(&case_a(), rng, true);
+    assert_eq!(ahead(&filed.bytes, 0, &new_plant, (1, 1)), Ok(filed_so_far.clone()));
+    assert_eq!(ahead(&filed.bytes, 0, &new_plant, (2, 1)), Err(5));
+    assert_eq!(ahead(&filed.bytes, 0, &new_plant, (3, 1)), Err(4));
+    // Places that aren't the owner's.
+    for (p, k, number) in [(0, 1, 4), (1, 0, 5), (2, 1, 4), (1, 2, 5), (1 << 32 | 1, 1, 4), (1, 1 << 32 | 1, 5)] {
+        assert_eq!(ahead(&filed.bytes, 2, &last, (p, k)), Err(number));
+    }
+    let mut two = filed.clone();
+    two.bytes.splice(6 * RECORD..7 * RECORD, new_measure);
+    two.set_link(2, NEXT, 6);
+    two.set_used(7);
+    assert_eq!(ahead(&two.bytes, 6, &last, (1, 1)), Ok(filed_so_far));
+    assert_eq!(ahead(&two.bytes, 2, &last, (1, 1)), Ok(a));
+    assert_eq!(ahead(&two.bytes, 6, &last, (1, 2)), Err(11));
+
+    // What doesn't settle yet: no quarter, three of four before-quarters, one curve point.
+    let mut bare = case_a();
+    let quarters = std::mem::take(&mut bare.measures[0].quarters);
+    let none = file(&[bare], &Layout { spare: 1, ..Layout::PLAIN }, &mut quiet());
+    assert_eq!(settle(&none.bytes, 1, 1, &mut list).number, 8);
+    let first = quarter_record(&quarters[0], rng, true);
+    assert_eq!(ahead(&none.bytes, 2, &first, (1, 1)), Ok((vec![74_999], 74_999, 4)));
+    let mut three = wind(2_000_000, 900_000, 1_500_000, 350_000);
+    let fourth = before_record(&three.measures[0].before.pop().unwrap(), rng, true);
+    let three = file(&[three], &Layout { spare: 1, ..Layout::PLAIN }, &mut quiet());
+    let owner = three.plants[0].measures[0].number;
+    assert_eq!(settle(&three.bytes, 1, 1, &mut list).number, 11);
+    assert_eq!(ahead(&three.bytes, owner, &fourth, (1, 1)), Ok((vec![250_000], 250_000, 10)));
+    let mut one = wind(2_000_000, 900_000, 1_000_000, 350_000);
+    one.curve.truncate(1);
+    let one = file(&[one], &Layout { spare: 1, ..Layout::PLAIN }, &mut quiet());
+    assert_eq!(settle(&one.bytes, 1, 1, &mut list).number, 10);
+    let second = point_record(&point(80, 0), rng, true);
+    assert_eq!(ahead(&one.bytes, 1, &second, (1, 1)), Ok((vec![137_500], 137_500, 9)));
+}
+
+/// Refusals of settle after an append that isn't refused.
+#[test]
+fn preview_refused_by_settle() {
+    let (filed, last) = two_of_three();
+    let rng = &mut quiet();
+    let wide = quarter_record(&quarter(1_000_000_001), rng, true);
+    assert_eq!(ahead(&filed.bytes, 2, &wide, (1, 1)), Err(9));
+    let unmarked = before_record(&Before { mark: 2, measured: 0, weather: 0 }, rng, true);
+    assert_eq!(ahead(&filed.bytes, 2, &unmarked, (1, 1)), Err(9));
+    for (at, value, number) in [(16, 99_999, 6), (1, 0, 6)] {
+        let mut wrong = filed.clone();
+        wrong.set_link(1, at, value);
+        assert_eq!(ahead(&wrong.bytes, 2, &last, (1, 1)), Err(number));
+    }
+    let mut wrong = filed.clone();
+    *wrong.byte(2, 1) = 3;
+    assert_eq!(ahead(&wrong.bytes, 2, &last, (1, 1)), Err(7));
+
+    // 18 for the one quarter more, before 13.
+    let mut late = filed.clone();
+    late.set_link(2, 16, LAST.0 as u32 - 1);
+    *late.byte(1, 2) = 1;
+    assert_eq!(settle(&late.bytes, 1, 1, &mut [0; 2]).number, 0);
+    assert_eq!(ahead(&late.bytes, 2, &last, (1, 1)), Err(18));
+    assert_eq!(previewed(&late.bytes, 2, &last, (1, 1), &[], &LENT.1).0, 18);
+
+    // 13: the list has room for what is filed so far only; the result part has another length.
+    for (places, number) in [(0, 13), (2, 13), (3, 0), (4, 0)] {
+        for ragged in [0, 7] {
+            let list = &LENT.0[..8 * places + ragged];
+            assert_eq!(previewed(&filed.bytes, 2, &last, (1, 1), list, &LENT.1).0, number);
+        }
+    }
+    for length in [0, 8, 23, 25, 48] {
+        assert_eq!(previewed(&filed.bytes, 2, &last, (1, 1), &LENT.0, &vec![5; length]).0, 13);
+        // In 13's place: append's refusals and settle's others come first.
+        assert_eq!(previewed(&filed.bytes, 1, &last, (1, 1), &LENT.0, &vec![5; length]).0, 15);
+        assert_eq!(previewed(&filed.bytes, 2, &wide, (1, 1), &LENT.0, &vec![5; length]).0, 9);
+        assert_eq!(previewed(&filed.bytes, 2, &last, (2, 1), &LENT.0, &vec![5; length]).0, 4);
+    }
+
+    // 8 for a 2,977th quarter and a 97th before-quarter.
+    let many = plant(3, 1, 1_000_000, vec![], vec![measure(2, 2, vec![], vec![quarter(0); 2_976])]);
+    let many = file(&[many], &Layout { spare: 1, noise: true, ..Layout::PLAIN }, &mut quiet());
+    let room = vec![1; 8 * 2_977];
+    assert_eq!(previewed(&many.bytes, 2, &last, (1, 1), &room, &LENT.1).0, 8);
+    let mut less = many.clone();
+    less.set_link(2_977, NEXT, 0);
+    less.set_used(2_978);
+    assert_eq!(previewed(&less.bytes, 2, &last, (1, 1), &room, &LENT.1).0, 0);
+    let mut day = case_a();
+    day.measures[0].before = vec![before(800_000, 0); 96];
+    let day = file(&[day], &Layout { spare: 1, noise: true, ..Layout::PLAIN }, &mut quiet());
+    let one_more = before_record(&before(800_000, 0), rng, true);
+    assert_eq!(ahead(&day.bytes, 2, &one_more, (1, 1)), Err(8));
+}
+
+/// Append's refusals, each before what settle would refuse, with and without the record.
+#[test]
+fn preview_refused_by_append() {
+    let (filed, last) = two_of_three();
+    let changed = |change: &dyn Fn(&mut Vec<u8>)| {
+        let mut bytes = filed.bytes.clone();
+        change(&mut bytes);
+        bytes
+    };
+    let set = |number: usize, at: usize, to: u32| {
+        changed(&|bytes| bytes[32 * number + at..32 * number + at + 4].copy_from_slice(&to.to_le_bytes()))
+    };
+    let record = |at: usize, byte: u8| {
+        let mut new = last.to_vec();
+        new[at] = byte;
+        new
+    };
+    let measure_with_link = {
+        let mut new = vec![0; RECORD];
+        (new[0], new[15]) = (3, 1);
+        new
+    };
+    let cases: [(u32, Vec<u8>, u64, Vec<u8>); 16] = [
+        (1, filed.bytes[..33].to_vec(), 2, last.to_vec()),
+        (1, vec![], 2, last.to_vec()),
+        (1, set(0, 0, 0), 2, last.to_vec()),
+        (1, set(0, 4, 9), 2, last.to_vec()),
+        (14, filed.bytes.clone(), 2, last[..31].to_vec()),
+        (14, filed.bytes.clone(), 2, [&last[..], &[0]].concat()),
+        (14, filed.bytes.clone(), 2, record(0, 9)),
+        (14, filed.bytes.clone(), 2, record(4, 1)),
+        (14, filed.bytes.clone(), 1, measure_with_link),
+        (15, filed.bytes.clone(), 6, last.to_vec()),
+        (15, filed.bytes.clone(), 1, last.to_vec()),
+        (15, filed.bytes.clone(), (1 << 32) + 2, last.to_vec()),
+        (2, set(5, NEXT, 5), 2, last.to_vec()),
+        (2, set(5, NEXT, 6), 2, last.to_vec()),
+        (3, changed(&|bytes| bytes[4 * RECORD] = 4), 2, last.to_vec()),
+        (16, filed.bytes[..6 * RECORD].to_vec(), 2, last.to_vec()),
+    ];
+    for (number, archive, owner, new) in &cases {
+        // Settle would give 0, 4, 5, 13 for the list and 13 for the result part.
+        for places in [(1, 1), (0, 1), (7, 1), (1, 0), (1, 7)] {
+            assert_eq!(previewed(archive, *owner, new, places, &LENT.0, &LENT.1).0, *number);
+        }
+        assert_eq!(previewed(archive, *owner, new, (1, 1), &[], &LENT.1).0, *number);
+        assert_eq!(previewed(archive, *owner, new, (1, 1), &LENT.0, &[]).0, *number);
+        // 6, and 7.
+        if archive.len() > 3 * RECORD {
+            for at in [RECORD + 1, 2 * RECORD + 1] {
+                let mut archive = archive.clone();
+                archive[at] = 77;
+                assert_eq!(previewed(&archive, *owner, new, (1, 1), &LENT.0, &LENT.1).0, *number);
+            }
+        }
+    }
+    // Both of append's: the order is its own.
+    assert_eq!(previewed(&filed.bytes[..6 * RECORD], 9, &record(0, 0), (0, 0), &[], &[]).0, 14);
+    assert_eq!(previewed(&filed.bytes[..6 * RECORD], 9, &last, (0, 0), &[], &[]).0, 15);
+}
+
+/// Archives that audit refuses, and whatever stands at place U.
+#[test]
+fn preview_unsound() {
+    let (filed, last) = two_of_three();
+    let with_last = Ok((vec![74_999, 75_000, 75_000], 224_999, 6));
+    for old in [vec![0; RECORD], vec![9; RECORD], vec![255; RECORD], last.to_vec(), filed.bytes[..RECORD].to_vec()] {
+        let mut archive = filed.bytes.clone();
+        archive[6 * RECORD..7 * RECORD].copy_from_slice(&old);
+        assert_eq!(ahead(&archive, 2, &last, (1, 1)), with_last);
+    }
+    // A link that is U already: not of a chain that is followed; then of chains that settle can follow only with the
+    // record.
+    for (number, at) in [(1, NEXT), (1, FIRST), (2, NEXT), (3, NEXT)] {
+        let mut stale = filed.clone();
+        stale.set_link(number, at, 6);
+        let mut later = stale.bytes.clone();
+        assert_eq!((audit(&stale.bytes), append(&mut later, 2, &last), take_back(&mut later)), (2, 0, 19));
+        let found = ahead(&stale.bytes, 2, &last, (1, 1));
+        assert_eq!(found, if number == 3 { Err(3) } else { with_last.clone() });
+    }
+    let mut shared = filed.clone();
+    shared.set_link(5, NEXT, 6);
+    let new_measure = measure_record(&case_a().measures[0], &mut quiet(), true);
+    shared.bytes[7 * RECORD..].copy_from_slice(&new_measure);
+    assert_eq!(settle(&shared.bytes, 1, 1, &mut [0; 3]).number, 2);
+    assert_eq!(ahead(&shared.bytes, 2, &last, (1, 1)), Err(2));
+    // The measure as record 6, so that U is 7: the old quarters' last link names the quarter that is filed under it.
+    shared.bytes.extend([7; RECORD]);
+    shared.bytes[6 * RECORD..7 * RECORD].copy_from_slice(&new_measure);
+    shared.set_used(7);
+    shared.set_link(5, NEXT, 7);
+    assert_eq!(settle(&shared.bytes, 1, 1, &mut [0; 3]).number, 2);
+    assert_eq!(ahead(&shared.bytes, 6, &last, (1, 1)), with_last);
+    // An orphan as owner, an unknown kind, a quarter that no link names.
+    for (number, at, to) in [(1, SECOND, 0), (3, 0, 9), (4, NEXT, 0)] {
+        let mut wrong = filed.clone();
+        wrong.set_link(number, at, to);
+        assert_ne!(audit(&wrong.bytes), 0);
+        let found = ahead(&wrong.bytes, 2, &last, (1, 1));
+        match number {
+            1 => assert_eq!(found, Err(5)),
+            3 => assert_eq!(found, Err(3)),
+            _ => assert_eq!(found, Ok((vec![74_999, 75_000], 149_999, 5))),
+        }
+    }
+}
+
 /// What the program prints; the same in both implementations.
 fn printed(input: &[u8]) -> String {
     let (mut out, mut other) = (Vec::new(), Vec::new());
@@ -1176,6 +1485,9 @@ fn agree(seed: u64, index: u64) {
         Call::Correction { amounts, balanced, prices } => {
             Some(corrected(&amounts, &balanced, &prices).err().unwrap_or(0))
         }
+        Call::Preview { archive, owner, record, p, k, list, result } => {
+            Some(previewed(&archive, owner, &record, (p, k), &list, &result).0)
+        }
     };
     if case.expected.is_some() {
         assert_eq!(case.expected, number, "made for this number: {index}");
@@ -1187,6 +1499,25 @@ fn fast_agrees() {
     for index in 0..12_000 {
         agree(2, index);
     }
+}
+
+/// Further previews: those among the calls above are few.
+#[test]
+fn fast_previews() {
+    let (mut good, mut by_append, mut by_settle) = (0, 0, 0);
+    for index in 0..8_000 {
+        let case = generate::preview(6, index);
+        if let Call::Preview { archive, owner, record, p, k, list, result } = case.call {
+            let (number, ..) = previewed(&archive, owner, &record, (p, k), &list, &result);
+            assert_eq!(case.expected.unwrap_or(number), number, "made for this number: {index}");
+            match append(&mut archive.clone(), owner, &record) {
+                0 if number == 0 => good += 1,
+                0 => by_settle += 1,
+                _ => by_append += 1,
+            }
+        }
+    }
+    assert!(good > 1_500 && by_append > 1_500 && by_settle > 1_500, "{good} {by_append} {by_settle}");
 }
 
 /// Every slip shows somewhere in a few thousand calls of its kind, of taking back and the correction the further ones
@@ -1253,6 +1584,15 @@ fn slips_show() {
                 };
                 let right = run(Slip::None);
                 open.retain(|&(slip, of)| of != Of::Correction || run(slip) == right);
+            }
+            Call::Preview { archive, owner, record, p, k, list, result } => {
+                let run = |slip| {
+                    let (mut archive, mut list, mut result) = (archive.clone(), list.clone(), result.clone());
+                    let number = slips::preview(slip, &mut archive, owner, &record, p, k, &mut list, &mut result);
+                    (number, archive, list, result)
+                };
+                let right = run(Slip::None);
+                open.retain(|&(slip, of)| of != Of::Preview || run(slip) == right);
             }
         }
     }

@@ -1,6 +1,6 @@
 // Calls made by the outside program (reference/src/bin/cases.rs) and run here. The file `calls` has them one after another; each gives a
-// line with its refusal number, the count, total and links of a settle, the delivery day or the remainder and the cents of a correction, and
-// a checksum of the later list or archive.
+// line with its refusal number, the count, total and links of a settle or preview, the delivery day or the remainder and the cents of a
+// correction, and a checksum of the later list, archive or both.
 ghost use Prim.Native.Nat.{_+_, _≤_, _<_};
 ghost use mathlib.Core.Path.{_≡_};
 ghost use lib.ListN.{length};
@@ -39,7 +39,9 @@ fn mix_amount(sum: u64, amount: i64) -> u64
     mix(sum, n)
 }
 
-fn sum_of_bytes(bytes: &[u8]) -> u64 {
+fn sum_of_bytes(bytes: &[u8]) -> u64
+    ensures { λ r. ⌜ r < 10000000000000061 ⌝ }
+{
     let mut sum: u64 = 0;
     let mut i = 0;
     while i < bytes.len() {
@@ -49,7 +51,9 @@ fn sum_of_bytes(bytes: &[u8]) -> u64 {
     sum
 }
 
-fn sum_of_list(list: &[i64]) -> u64 {
+fn sum_of_list(list: &[i64]) -> u64
+    ensures { λ r. ⌜ r < 10000000000000061 ⌝ }
+{
     let mut sum: u64 = 0;
     let mut i = 0;
     while i < list.len() {
@@ -80,17 +84,35 @@ fn number_only(number: u64, sum: u64) -> Answer {
     }
 }
 
-fn settle_call(archive: &[u8], p: u64, k: u64, list: &mut [i64]) -> Answer {
-    match settle::settle(archive, p, k, list) {
+fn answer_of(settled: Settled, sum: u64) -> Answer {
+    match settled {
         Settled::Given(count, total, links) => Answer {
             number: 0,
             count,
             total: total.0,
             links,
-            sum: sum_of_list(list),
+            sum,
         },
-        Settled::Refused(number) => number_only(number, sum_of_list(list)),
+        Settled::Refused(number) => number_only(number, sum),
     }
+}
+
+fn settle_call(archive: &[u8], p: u64, k: u64, list: &mut [i64]) -> Answer {
+    let settled = settle::settle(archive, p, k, list);
+    answer_of(settled, sum_of_list(list))
+}
+
+// The checksum is of the later archive and list.
+fn preview_call(
+    archive: &mut [u8],
+    owner: u64,
+    new: &[u8],
+    p: u64,
+    k: u64,
+    list: &mut [i64],
+) -> Answer {
+    let settled = preview::preview(archive, owner, new, p, k, list);
+    answer_of(settled, mix(sum_of_bytes(archive), sum_of_list(list)))
 }
 
 fn append_call(archive: &mut [u8], owner: u64, new: &[u8]) -> Answer {
@@ -208,13 +230,15 @@ fn correction_call(first: u64, second: u64, bytes: &[u8]) -> Answer {
 
 // ---- a call in the file
 
-// Which call, and its two numbers: plant and measure place, the owner's, record's or quarter's number, or how many amounts and balanced
-// energies there are. So many bytes follow for the archive's start, whose further bytes stay as the last call left them; the archive has
-// `size` bytes; `filed` bytes of a new record, of holidays or of the lists of a correction follow; the list has `places` places.
+// Which call, and its numbers: plant and measure place and in a preview the owner's number as third; the owner's, record's or quarter's
+// number; or how many amounts and balanced energies there are. So many bytes follow for the archive's start, whose further bytes stay as the
+// last call left them; the archive has `size` bytes; `filed` bytes of a new record, of holidays or of the lists of a correction follow; the
+// list has `places` places.
 struct Call {
     name: u64,
     first: u64,
     second: u64,
+    third: u64,
     given: usize,
     size: usize,
     filed: usize,
@@ -222,16 +246,17 @@ struct Call {
 }
 
 fn call_of(r: &[u8]) -> Call
-    requires { ⌜ length (now r) ≡ 36 ⌝ }
+    requires { ⌜ length (now r) ≡ 44 ⌝ }
 {
     Call {
         name: record::link_at(r, 0),
         first: double_word(r, 4),
         second: double_word(r, 12),
-        given: record::link_at(r, 20) as usize,
-        size: record::link_at(r, 24) as usize,
-        filed: record::link_at(r, 28) as usize,
-        places: record::link_at(r, 32) as usize,
+        third: double_word(r, 20),
+        given: record::link_at(r, 28) as usize,
+        size: record::link_at(r, 32) as usize,
+        filed: record::link_at(r, 36) as usize,
+        places: record::link_at(r, 40) as usize,
     }
 }
 
@@ -256,6 +281,9 @@ fn answer_to(call: Call, archive: &mut [u8], new: &[u8], list: &mut [i64]) -> An
     }
     if call.name == 8 {
         return correction_call(call.first, call.second, new);
+    }
+    if call.name == 9 {
+        return preview_call(archive, call.third, new, call.first, call.second, list);
     }
     fresh_call(archive)
 }
@@ -314,8 +342,8 @@ fn run_call(call: Call, archive: &mut [u8], new: &[u8], list: &mut [i64]) -> boo
 
 // The next call: false at the file's end.
 fn run_next(fd: i32, archive: &mut [u8], new: &mut [u8], list: &mut [i64]) -> bool {
-    let mut head = [0u8; 36];
-    if !read_start(fd, &mut head, 36) {
+    let mut head = [0u8; 44];
+    if !read_start(fd, &mut head, 44) {
         return false;
     }
     let call = call_of(&head);

@@ -11,14 +11,14 @@ use Rattle.rules.specs.Archive.{linkAt, kindOf, usedOf, Entry, chain}
 use Rattle.rules.specs.Filing.{newAllowed, offsetFor, lastPlace, appendAfter}
 use Rattle.rules.proofs.Sound.{used-head, whole-length}
 use Rattle.rules.proofs.Append.{allowed-new}
-use Rattle.rules.proofs.AppendSteps.{used-within, offset-within, append-bad-chain, append-full, append-files, last-fits}
+use Rattle.rules.proofs.AppendSteps.{used-within, offset-within, append-bad-chain, append-full, append-files, last-link}
 use Rattle.chains.specs.declared.ChainEnd.{ChainEnd}
 use Rattle.chains.specs.declared.ChainEnd.the-variants as chainEnd
 use Rattle.chains.specs.Answers.{endAnswer}
 use Rattle.chains.specs.Held.{LinkHeld}
 use Rattle.filing.specs.declared.Destination.the-variants as destination
 use Rattle.filing.specs.declared.Offset.{Offset}
-use Rattle.filing.specs.Destinations.{offsetOutcome, Goes}
+use Rattle.filing.specs.Destinations.{offsetOutcome, EndsAt, Goes}
 
 -- ---- the answer of a walk to the end of a chain taken apart
 
@@ -70,10 +70,11 @@ module _ {archive : List ℕ} {owner : ℕ} {new : List ℕ} {used kind offset :
       chain-joined h =
           let w = ended e in
           let l = whole-length (length archive) (used-head archive used (t .used-is) .whole) in
-          let f = last-fits archive owner new used (t .used-is) (t .allowed) kind (t .kind-is) offset (t .offset-is) (w .0) (w .1) in
+          let f = last-link archive owner new used (t .used-is) (t .allowed) kind (t .kind-is) offset (t .offset-is) (w .0) (w .1) in
           let g = used-within archive used (t .used-is) in
           let p = w .2 in (
             append-files archive owner new used (t .used-is) (t .allowed) kind (t .kind-is) offset (t .offset-is) (w .0) (w .1) h
                 ∙ ap (λ (p : ℕ). given (appendAfter archive used p new)) (sym p),
             record { size = allowed-new new (t .allowed) .size; free = omega arith; link = omega arith; few = omega arith },
+            subst (EndsAt archive used) (sym p) (record { counted = t .used-is; low = f .0; high = f .1; was-zero = f .2 }),
           )

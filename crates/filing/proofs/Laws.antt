@@ -4,7 +4,8 @@ use mathlib.Core.Bool.{true, false}
 use mathlib.Core.List.{List, _++_, append-nil}
 use Prim.Native.Nat.{ℕ, _+_, _≤_}
 use native.Mathlib.Omega.{arith}
-use lib.ListN.{length, replicate, drop-of-length-le}
+use lib.ListN.{length, take, replicate, drop-of-length-le}
+use lib.Seq.{take-length}
 use Rattle.rules.specs.Outcome.{_>>_, require}
 use Rattle.rules.specs.Refusals.{notArchive}
 use Rattle.rules.specs.Archive.{isWhole}
@@ -48,6 +49,10 @@ module _ (archive : List ℕ) (owner : ℕ) (new : List ℕ) (x : Destination) (
   append-done used last later e f = let q = subst (Goes archive owner new) e p in record { answers = rw (q .0); leaves = f ∙ sym (rw (q .0)) }
 
 -- ---- what is filed
+
+-- a part of 32 of 32 bytes
+pub part-of-32 : (new : List ℕ) → length new ≡ 32 → take 32 new ≡ new
+part-of-32 new e = ap (λ (n : ℕ). take n new) (sym e) ∙ take-length new
 
 -- a list written over one as long
 pub taken-over : (old new : List ℕ) → length new ≡ length old → put old 0 new ≡ new

@@ -26,14 +26,14 @@ pub fn fresh(archive: &mut [u8]) -> u64
 
 // ---- append
 
-// The record goes to number U, the last link of its chain points to it, U grows by 1, no other byte changes. Its bytes are taken over
-// first, where nothing else is written, so that the compiler moves them together.
-fn file(archive: &mut [u8], used: u64, last: u64, new: &[u8])
+// The record goes to number U, the last link of its chain points to it, U grows by 1, no other byte changes. Its 32 bytes are taken over
+// first, where nothing else is written, and as a part of that length, so that the compiler moves them together.
+pub fn file(archive: &mut [u8], used: u64, last: u64, new: &[u8])
     requires { ⌜ HasRoom (now archive) used last (now new) ⌝ }
     ensures { λ _. ⌜ now (archive .exit) ≡ appendAfter (now (archive .entry)) used last (now (new .entry)) ⌝ }
 {
     let mut own = [0u8; 32];
-    writing::put_bytes(&mut own, 0, new);
+    writing::put_bytes(&mut own, 0, &new[0..32]);
     writing::put_bytes(archive, 32 * used, &own);
     writing::put_word(archive, last, used);
     writing::put_word(archive, 4, used + 1);
@@ -103,13 +103,13 @@ fn offset_for(archive: &[u8], used: u64, owner: u64, kind: u8) -> Offset
 }
 
 // Where a new record goes: its number and the place of the link to it, or a refusal.
-enum Destination {
+pub enum Destination {
     At(u64, u64),
     Refused(u64),
 }
 
 // Every test of append, before a byte is written: 1, 14, 15, 2, 3, 16.
-fn destination_for(archive: &[u8], owner: u64, new: &[u8]) -> Destination
+pub fn destination_for(archive: &[u8], owner: u64, new: &[u8]) -> Destination
     ensures { λ r. ⌜ Goes (now (archive .entry)) owner (now (new .entry)) r ⌝ }
 {
     let used = match archive::read_head(archive) {

@@ -4,9 +4,10 @@ ghost use Prim.Native.Nat.{_/_, _≤_, min};
 ghost use lib.ListN.{length};
 ghost use mathlib.Core.List.{_++_};
 ghost use Rattle.rules.specs.Encoding.{doubleWord};
-ghost use Rattle.rules.specs.Promises.{HostSettles, Freshens, Appends, TakesBack, Audits, Delivers, HostCorrects};
+ghost use Rattle.rules.specs.Promises.{HostSettles, Freshens, Appends, TakesBack, HostPreviews, Audits, Delivers, HostCorrects};
 ghost use Rattle.host.specs.Shown.{shownPlace};
 use calendar::Delivery;
+use filing::Destination;
 use prepare::Prepared;
 use rules::refusal;
 use units::QuarterNumber;
@@ -112,6 +113,31 @@ pub extern "C" fn sandegmur_take_back(archive: &mut [u8]) -> u32
     ensures { λ r. ⌜ TakesBack (now (archive .entry)) (now (archive .exit)) r ⌝ }
 {
     takeback::take_back(archive) as u32
+}
+
+// What settle would give with one more record (document 02, 6). The archive is written to, and is as before when the call ends.
+#[no_mangle]
+pub extern "C" fn sandegmur_preview(
+    archive: &mut [u8],
+    owner: u64,
+    new: &[u8],
+    p: u64,
+    k: u64,
+    list: &mut [u8],
+    result: &mut [u8],
+) -> u32
+    ensures { λ r. ⌜ HostPreviews (now (archive .entry)) owner (now (new .entry)) p k (now (list .entry)) (now (list .exit))
+        (now (result .entry)) (now (result .exit)) (now (archive .exit)) r ⌝ }
+{
+    let mut old = [0u8; 32];
+    match preview::append_for_now(archive, owner, new, &mut old) {
+        Destination::Refused(number) => number as u32,
+        Destination::At(used, place) => {
+            let number = sandegmur_settle(archive, p, k, list, result);
+            preview::undo(archive, used, place, &old);
+            number
+        }
+    }
 }
 
 #[no_mangle]

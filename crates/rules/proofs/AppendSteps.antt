@@ -13,7 +13,7 @@ use Rattle.rules.specs.Links.{link}
 use Rattle.rules.specs.Filing.{newAllowed, offsetFor, lastPlace, appendAfter, append}
 use Rattle.rules.proofs.Places.{owned-at}
 use Rattle.rules.proofs.Sound.{used-head, head-room}
-use Rattle.rules.proofs.Runs.{lastAt, last-is, chain-runs, last-within}
+use Rattle.rules.proofs.Runs.{lastAt, last-is, chain-runs, last-within, last-ends}
 use Rattle.rules.proofs.Append.{offset-owned}
 
 -- U records lie in the archive, which has at most 65,535
@@ -58,11 +58,11 @@ module _ (archive : List ℕ) (owner : ℕ) (new : List ℕ) where
           unfolding append _>>=_ _>>_ require
           append-files h = rw (u, a, ← k, o, c, lt-ltb used (length archive / 32) h)
 
-          -- the link is written in the used part
-          pub last-fits : lastPlace (32 * owner + offset) es + 4 ≤ 32 * used
-          last-fits =
+          -- the link that is to name the record stands behind the head's count, in the used part, and is zero
+          pub last-link : let place = lastPlace (32 * owner + offset) es in (8 ≤ place) × (place + 4 ≤ 32 * used) × (linkAt archive place ≡ 0)
+          last-link =
               let w = offset-within archive used owner kind offset o in
               let r = chain-runs archive used kind owner (32 * owner + offset) es c in
               let y = last-within archive used kind owner (32 * owner + offset) (r .0) (r .1) (omega arith) (omega arith) in
               let i : lastPlace (32 * owner + offset) es ≡ lastAt (32 * owner + offset) (r .0) = ap (lastPlace (32 * owner + offset)) (r .2) ∙ last-is archive (32 * owner + offset) (r .0) in
-              omega arith
+              (omega arith, omega arith, ap (linkAt archive) i ∙ last-ends archive used kind owner (32 * owner + offset) (r .0) (r .1))

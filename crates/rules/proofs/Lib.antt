@@ -36,7 +36,9 @@ pub mod Figures
 pub mod DateFigures
 pub mod OctoberFigures
 pub mod TakeBackFigures
+pub mod PreviewFigures
 pub mod CorrectionFigures
+pub mod Preview
 pub mod RaisedExample
 pub mod Walks
 pub mod Folds

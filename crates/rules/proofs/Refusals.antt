@@ -8,8 +8,8 @@ use lib.Dec.{eqb}
 use lib.IntN.{ℤ}
 use lib.ListN.{length}
 use Rattle.rules.specs.Outcome.{Outcome, refused, given, _>>=_, _>>_, require, numberOf, after}
-use Rattle.rules.specs.Refusals.{notArchive, badLink, wrongKind, settleRefusals, appendRefusals, auditRefusals, takeBackRefusals, deliveryDayRefusals, correctionRefusals}
-use Rattle.rules.specs.Numbers.{member}
+use Rattle.rules.specs.Refusals.{notArchive, badLink, wrongKind, settleRefusals, appendRefusals, auditRefusals, takeBackRefusals, previewRefusals, deliveryDayRefusals, correctionRefusals}
+use Rattle.rules.specs.Numbers.{member, all}
 use Rattle.rules.specs.Calendar.{deliveryDay}
 use Rattle.rules.specs.Archive.{linkAt, usedOf, nextOf, Entry, follow, atPlace, chainFrom, chain}
 use Rattle.rules.specs.Terms.{Technology, wind, solar, other, Variant, spitz, pauschal, Point, Before}
@@ -19,8 +19,10 @@ use Rattle.rules.specs.Links.{Link, ownedAt, linksAt, standsAt, namers}
 use Rattle.rules.specs.Filing.{fresh, offsetIn, offsetFor, append}
 use Rattle.rules.specs.Audit.{linkChecked, linksChecked, recordChecked, recordsChecked, audit}
 use Rattle.rules.specs.TakeBack.{onlyPlace, takeBack}
+use Rattle.rules.specs.Preview.{preview, hostPreview}
 use Rattle.rules.specs.Correction.{correctionOver, correction}
 use Rattle.rules.specs.Demands.{RefusedWithin, EveryCallAnswers, RefusalsChangeNothing}
+use Rattle.rules.proofs.Lists.{at-member}
 
 -- ---- along the parts of a definition
 
@@ -220,6 +222,24 @@ take-back-within archive =
     within-bind _ _ (within-used refl archive) (λ used. within-test _ 19 _ refl
     (within-bind _ _ (only-within (namers archive used (used - 1))) (λ place. within-given _)))
 
+-- the numbers of one list are among those of another
+within-more : {A : Type 0} {ns ms : List ℕ} {o : Outcome A} → all (λ n. member n ms) ns ≡ true → RefusedWithin ns o → RefusedWithin ms o
+within-more {ns = ns} {ms = ms} more h = record { of = λ n e. at-member (λ n. member n ms) ns n more (h .of n e) }
+
+-- append's numbers, and then settle's
+preview-within : {B : Type 0} (archive : List ℕ) (owner : ℕ) (new : List ℕ) {then : List ℕ → Outcome B} → ((appended : List ℕ) → RefusedWithin settleRefusals (then appended))
+    → RefusedWithin previewRefusals (append archive owner new >>= then)
+preview-within archive owner new h = within-bind _ _ (within-more refl (append-within archive owner new)) (λ appended. within-more refl (h appended))
+
+previews-within : (archive : List ℕ) (owner : ℕ) (new : List ℕ) (p k places : ℕ) → RefusedWithin previewRefusals (preview archive owner new p k places)
+unfolding preview
+previews-within archive owner new p k places = preview-within archive owner new (λ appended. settle-within appended p k places)
+
+host-previews-within : (archive : List ℕ) (owner : ℕ) (new : List ℕ) (p k listBytes resultBytes : ℕ)
+    → RefusedWithin previewRefusals (hostPreview archive owner new p k listBytes resultBytes)
+unfolding hostPreview
+host-previews-within archive owner new p k listBytes resultBytes = preview-within archive owner new (λ appended. host-within appended p k listBytes resultBytes)
+
 delivers-within : (quarter : ℕ) (holidays : List ℕ) → RefusedWithin deliveryDayRefusals (deliveryDay quarter holidays)
 unfolding deliveryDay
 delivers-within quarter holidays = within-test _ 18 _ refl (within-given _)
@@ -237,6 +257,8 @@ every-call-answers = record {
   appends = append-within;
   audits = audit-within;
   takes-back = take-back-within;
+  previews = previews-within;
+  host-previews = host-previews-within;
   delivers = delivers-within;
   corrects = corrects-within;
 }
@@ -267,6 +289,12 @@ refusals-change-nothing = record {
   freshens = λ archive later number h f. h .leaves ∙ kept (fresh archive) _ archive number (h .answers) f;
   appends = λ archive owner new later number h f. h .leaves ∙ kept (append archive owner new) _ archive number (h .answers) f;
   takes-back = λ archive later number h f. h .leaves ∙ kept (takeBack archive) _ archive number (h .answers) f;
+  previews = λ archive owner new p k list laterList later answer h f.
+      let o = preview archive owner new p k (length list) in
+      (h .leaves-list ∙ kept o _ list (answer .number) (number-is o (h .answers)) f, h .leaves-archive);
+  host-previews = λ archive owner new p k list laterList result laterResult laterArchive number h f.
+      let o = hostPreview archive owner new p k (length list) (length result) in
+      (h .leaves-list ∙ kept o _ list number (h .answers) f, h .leaves-result ∙ kept o _ result number (h .answers) f, h .leaves-archive);
   delivers = λ quarter holidays was day number h f. h .leaves ∙ kept (deliveryDay quarter holidays) _ was number (h .answers) f;
   corrects = λ amounts balanced prices was cents rest remainder number h f.
       let o = correction amounts balanced prices in

@@ -1,9 +1,9 @@
--- Taking back: it undoes an append, a sound archive stays sound, and filings are taken back one by one (02, 2).
-use mathlib.Core.Path.{_≡_, refl, sym, _∙_, ap, subst}
+-- Taking back: it takes an append back, a sound archive stays sound, and filings are taken back one by one (02, 2).
+use mathlib.Core.Path.{_≡_, refl, sym, _∙_, ap, ap₂, subst}
 use mathlib.Core.Bool.{Bool, true, false}
 use mathlib.Core.List.{List, [], _∷_, _++_, map, append-nil, List·Memᴰ, List·Memᴰ·head, List·Memᴰ·eq-of-singleton, Memᴰ·cast}
 use mathlib.Core.Logic.{inr}
-use Prim.Native.Nat.{ℕ, zero, suc, _+_, _*_, _-_, _/_, _%_, _^_, _≤_, _<_}
+use Prim.Native.Nat.{ℕ, zero, suc, _+_, _*_, _-_, _≤_, _<_}
 use native.Mathlib.Omega.{arith}
 use native.Mathlib.Numerals.{add-one}
 use lib.Dec.{eqb}
@@ -15,20 +15,19 @@ use Rattle.rules.specs.Numbers.{keep}
 use Rattle.rules.specs.Archive.{byteAt, linkAt, kindOf, recordAt, isWhole, usedOf}
 use Rattle.rules.specs.Encoding.{word}
 use Rattle.rules.specs.Links.{Link, isKind, linksAt, standsAt, linkPlaces, namers}
-use Rattle.rules.specs.Filing.{freshBytes, append}
+use Rattle.rules.specs.Filing.{freshBytes, appendAfter, append}
 use Rattle.rules.specs.Audit.{Sound}
 use Rattle.rules.specs.ReadBack.{Filing, fileAll}
 use Rattle.rules.specs.TakeBack.{takenBack, takeBack, takeBackTimes}
-use Rattle.rules.specs.Demands.{AreBytes, TakesAppendBack, TakesBackSoundly, TakesFilingsBack}
+use Rattle.rules.specs.Demands.{TakesAppendBack, TakesBackSoundly, TakesFilingsBack}
 use Rattle.rules.proofs.Inversion.{given-inj}
 use Rattle.rules.proofs.Bytes.{byte-of, record-length}
 use Rattle.rules.proofs.Lists.{keep-same, keep-none, keep-append, in-keep, of-keep, sole, of-map}
 use Rattle.rules.proofs.Places.{stands-in, in-stands, Stands}
 use Rattle.rules.proofs.Sound.{bind-both, Head, head-used, head-room, Leads, ends, leads, Stored, Well, well-sound, sound-well}
-use Rattle.rules.proofs.Write.{written, Wrote, wrote, place-below, text-kept, kind-kept, links-kept, places-kept, link-kept}
+use Rattle.rules.proofs.Write.{written, Wrote, wrote, written-again, count-written, place-above, place-below, text-kept, kind-kept, links-kept, places-kept, link-kept}
 use Rattle.rules.proofs.Append.{Appending, append-says, linkPlace, place-zero, room, writing, named-after, well-after}
 use Rattle.rules.proofs.TakeBackSteps.{take-back-once}
-use Rattle.rules.proofs.Unlinked.{Where, outside, inside, side-of, zero-bytes}
 use Rattle.rules.proofs.ReadBack.{rep-zero, fresh-well, start-is}
 
 abbrev zeros : List ℕ
@@ -162,7 +161,7 @@ takes-back-soundly archive used s u more =
     let one = sole (namers archive used (used - 1)) (well .named (used - 1) (omega arith) (omega arith)) in
     soundly-back archive used (used - 1) (omega arith) (omega arith) well (one .0) (one .1)
 
--- ---- an append is undone
+-- ---- an append is taken back
 
 module _ (archive : List ℕ) (owner : ℕ) (new after : List ℕ) (a : Appending archive owner new after) (well : Well archive (a .used)) where
   abbrev place : ℕ
@@ -189,58 +188,14 @@ module _ (archive : List ℕ) (owner : ℕ) (new after : List ℕ) (a : Appendin
           (eq-eqb (linkAt after place) (a .used) (wrote-new .named))
 
   module _ (count-bytes : (i : ℕ) → i < 4 → byteAt archive (4 + i) ≡ byteAt (word (a .used)) i) (empty : recordAt archive (a .used) ≡ zeros) where
-    abbrev back : List ℕ
-    back = written after (a .used) place zeros 0 (a .used)
-
-    wrote-back-new : Wrote after (a .used) place zeros 0 (a .used) back
-    wrote-back-new =
-        let r = room archive owner new after a in
-        wrote after (a .used) place zeros 0 (a .used) refl stands-after (rw (wrote-new .long) (r .0)) (omega arith) (omega arith)
-
-    same-byte : (i : ℕ) → byteAt back i ≡ byteAt archive i
-    same-byte i = go (side-of 4 4 i) (side-of place 4 i) (side-of (32 * a .used) 32 i)
-      where
-        go : Where 4 4 i → Where place 4 i → Where (32 * a .used) 32 i → byteAt back i ≡ byteAt archive i
-        go (inside k h e) p r = rw (← e) (wrote-back-new .count-bytes k h ∙ sym (count-bytes k h))
-        go (outside c) (inside k h e) r =
-            rw (← e) (zero-bytes back place k (wrote-back-new .named) h ∙ sym (zero-bytes archive place k (place-zero archive owner new after a) h))
-        go (outside c) (outside p) (inside k h e) =
-            rw (← e)
-            (sym (byte-of back (a .used) k h) ∙ ap (λ (r : List ℕ). byteAt r k) (wrote-back-new .filed ∙ sym empty) ∙ byte-of archive (a .used) k h)
-        go (outside c) (outside p) (outside r) = wrote-back-new .bytes i c p r ∙ wrote-new .bytes i c p r
-
     pub takes-new-back : takeBack after ≡ given archive
+    unfolding appendAfter
     takes-new-back =
         takes-back after (a .used + 1) (a .used) place refl (a .head .some) (well-after archive owner new after a well .head) new-namers
-        ∙ ap given (ext-getD 0 back archive (wrote-back-new .long ∙ wrote-new .long) (λ i h. same-byte i))
-
--- the bytes of U, as every call writes them
-count-written : (archive : List ℕ) (used : ℕ) → AreBytes archive → linkAt archive 4 ≡ used → (i : ℕ) → i < 4 → byteAt archive (4 + i) ≡ byteAt (word used) i
-unfolding linkAt word
-count-written archive used bytes e i h = at i h
-  where
-    b₀ : byteAt archive 4 < 2 ^ 8
-    b₀ = bytes 4
-
-    b₁ : byteAt archive 5 < 2 ^ 8
-    b₁ = bytes 5
-
-    b₂ : byteAt archive 6 < 2 ^ 8
-    b₂ = bytes 6
-
-    b₃ : byteAt archive 7 < 2 ^ 8
-    b₃ = bytes 7
-
-    digits : (x₀ x₁ x₂ x₃ n : ℕ) → x₀ < 2 ^ 8 → x₁ < 2 ^ 8 → x₂ < 2 ^ 8 → x₃ < 2 ^ 8 → x₀ + 2 ^ 8 * x₁ + 2 ^ 16 * x₂ + 2 ^ 24 * x₃ ≡ n
-        → (x₀ ≡ n % 2 ^ 8) × (x₁ ≡ n / 2 ^ 8 % 2 ^ 8) × (x₂ ≡ n / 2 ^ 16 % 2 ^ 8) × (x₃ ≡ n / 2 ^ 24 % 2 ^ 8)
-    digits x₀ x₁ x₂ x₃ n h₀ h₁ h₂ h₃ e = omega arith
-
-    at : (i : ℕ) → i < 4 → byteAt archive (4 + i) ≡ byteAt (word used) i
-    at zero h = digits (byteAt archive 4) (byteAt archive 5) (byteAt archive 6) (byteAt archive 7) used b₀ b₁ b₂ b₃ e .0
-    at (suc zero) h = digits (byteAt archive 4) (byteAt archive 5) (byteAt archive 6) (byteAt archive 7) used b₀ b₁ b₂ b₃ e .1
-    at (suc (suc zero)) h = digits (byteAt archive 4) (byteAt archive 5) (byteAt archive 6) (byteAt archive 7) used b₀ b₁ b₂ b₃ e .2
-    at (suc (suc (suc zero))) h = digits (byteAt archive 4) (byteAt archive 5) (byteAt archive 6) (byteAt archive 7) used b₀ b₁ b₂ b₃ e .3
-    at (suc (suc (suc (suc i)))) h = absurd (omega arith)
+        ∙ ap given (
+        ap₂ (λ (x : List ℕ) (old : List ℕ). written x (a .used) place old 0 (a .used)) (sym (a .after-is)) (sym empty)
+        ∙ written-again archive (a .used) place new (a .used) (a .used + 1) (a .fresh-new .size) (place-above wrote-new) (place-below wrote-new)
+        (room archive owner new after a .0) (place-zero archive owner new after a) count-bytes)
 
 pub takes-append-back : TakesAppendBack
 takes-append-back archive later used owner new bytes s u empty e =

@@ -7,19 +7,20 @@ use lib.IntN.{ℤ, pos}
 use lib.Signed.{_≤ℤ_, _<ℤ_}
 use lib.ListN.{length, getD, take, replicate}
 use Rattle.rules.specs.Outcome.{Outcome, refused, given}
-use Rattle.rules.specs.Refusals.{settleRefusals, freshRefusals, appendRefusals, auditRefusals, takeBackRefusals, deliveryDayRefusals, correctionRefusals}
+use Rattle.rules.specs.Refusals.{settleRefusals, freshRefusals, appendRefusals, auditRefusals, takeBackRefusals, previewRefusals, deliveryDayRefusals, correctionRefusals, lastNotNamedOnce}
 use Rattle.rules.specs.Numbers.{sumℤ, member, keep}
 use Rattle.rules.specs.Calendar.{Date, monthLength, dated, dateOf, dayNumber, nextFirst, dayAfter, saturday, following, weekdayOf, isMondayToFriday, dayOf}
 use Rattle.rules.specs.Calendar.{isWorkingDay, daysFrom, workingDays, nextMonth, deliveryDay}
-use Rattle.rules.specs.Archive.{byteAt, kindOf, recordAt, usedOf}
+use Rattle.rules.specs.Archive.{byteAt, linkAt, kindOf, recordAt, usedOf}
 use Rattle.rules.specs.Settle.{Answer, answerOf, settle, listAfter}
 use Rattle.rules.specs.Fractions.{Raised}
 use Rattle.rules.specs.Host.{hostSettle}
-use Rattle.rules.specs.Filing.{fresh, newAllowed, offsetFor, append}
+use Rattle.rules.specs.Filing.{fresh, newAllowed, offsetFor, appendAfter, append}
 use Rattle.rules.specs.Audit.{audit, Sound}
 use Rattle.rules.specs.TakeBack.{takeBack, takeBackTimes}
+use Rattle.rules.specs.Preview.{preview, hostPreview, undone}
 use Rattle.rules.specs.Correction.{Gap, gapsOf, Money, costOf, totalCost, moneyOf, exactMoney, correction}
-use Rattle.rules.specs.Promises.{Settles, HostSettles, Freshens, Appends, TakesBack, Delivers, HostCorrects}
+use Rattle.rules.specs.Promises.{Settles, HostSettles, Freshens, Appends, TakesBack, Previews, HostPreviews, Delivers, HostCorrects}
 use Rattle.rules.specs.ReadBack.{Filing, fileAll, Filed}
 
 -- ---- demand 1: an answer or the one refusal; a refused call changes nothing
@@ -35,6 +36,9 @@ pub record EveryCallAnswers : Type 0 where
   pub appends : (archive : List ℕ) (owner : ℕ) (new : List ℕ) → RefusedWithin appendRefusals (append archive owner new)
   pub audits : (archive : List ℕ) → RefusedWithin auditRefusals (audit archive)
   pub takes-back : (archive : List ℕ) → RefusedWithin takeBackRefusals (takeBack archive)
+  pub previews : (archive : List ℕ) (owner : ℕ) (new : List ℕ) (p k places : ℕ) → RefusedWithin previewRefusals (preview archive owner new p k places)
+  pub host-previews : (archive : List ℕ) (owner : ℕ) (new : List ℕ) (p k listBytes resultBytes : ℕ)
+      → RefusedWithin previewRefusals (hostPreview archive owner new p k listBytes resultBytes)
   pub delivers : (quarter : ℕ) (holidays : List ℕ) → RefusedWithin deliveryDayRefusals (deliveryDay quarter holidays)
   pub corrects : (amounts balanced prices : List ℤ) → RefusedWithin correctionRefusals (correction amounts balanced prices)
 
@@ -48,6 +52,11 @@ pub record RefusalsChangeNothing : Type 0 where
   pub appends : (archive : List ℕ) (owner : ℕ) (new later : List ℕ) (number : ℕ) → Appends archive owner new later number
       → (number ≡ 0 → ⊥) → later ≡ archive
   pub takes-back : (archive later : List ℕ) (number : ℕ) → TakesBack archive later number → (number ≡ 0 → ⊥) → later ≡ archive
+  pub previews : (archive : List ℕ) (owner : ℕ) (new : List ℕ) (p k : ℕ) (list laterList : List ℤ) (later : List ℕ) (answer : Answer)
+      → Previews archive owner new p k list laterList later answer → (answer .number ≡ 0 → ⊥) → (laterList ≡ list) × (later ≡ archive)
+  pub host-previews : (archive : List ℕ) (owner : ℕ) (new : List ℕ) (p k : ℕ) (list laterList result laterResult laterArchive : List ℕ) (number : ℕ)
+      → HostPreviews archive owner new p k list laterList result laterResult laterArchive number → (number ≡ 0 → ⊥)
+      → (laterList ≡ list) × (laterResult ≡ result) × (laterArchive ≡ archive)
   pub delivers : (quarter : ℕ) (holidays : List ℕ) (was day number : ℕ) → Delivers quarter holidays was day number → (number ≡ 0 → ⊥) → day ≡ was
   pub corrects : (amounts balanced prices : List ℤ) (was cents : ℤ) (rest remainder number : ℕ)
       → HostCorrects amounts balanced prices was cents rest remainder number → (number ≡ 0 → ⊥) → (cents ≡ was) × (remainder ≡ rest)
@@ -147,6 +156,48 @@ abbrev pub TakesFilingsBack : Type 0
 TakesFilingsBack =
     (archive start end : List ℕ) (filings : List Filing) (times : ℕ) → fresh archive ≡ given start → fileAll filings start ≡ given end
     → times ≤ length filings → takeBackTimes times end ≡ fileAll (take (length filings - times) filings) start
+
+-- ---- preview (02, 6)
+
+-- append's refusal is the preview's; where append isn't refused, the preview is settle on the later archive, with all that settle promises
+pub record PreviewSettles : Type 0 where
+  pub append-first : (archive : List ℕ) (owner : ℕ) (new : List ℕ) (p k : ℕ) (list laterList : List ℤ) (later : List ℕ) (answer : Answer) (n : ℕ)
+      → Previews archive owner new p k list laterList later answer → append archive owner new ≡ refused n
+      → (answer ≡ answerOf (refused n)) × (laterList ≡ list)
+  pub then-settle : (archive : List ℕ) (owner : ℕ) (new : List ℕ) (p k : ℕ) (list laterList : List ℤ) (later : List ℕ) (answer : Answer) (appended : List ℕ)
+      → Previews archive owner new p k list laterList later answer → append archive owner new ≡ given appended → Settles appended p k list laterList answer
+  pub host-append-first : (archive : List ℕ) (owner : ℕ) (new : List ℕ) (p k : ℕ) (list laterList result laterResult laterArchive : List ℕ) (number n : ℕ)
+      → HostPreviews archive owner new p k list laterList result laterResult laterArchive number → append archive owner new ≡ refused n
+      → (number ≡ n) × (laterList ≡ list) × (laterResult ≡ result)
+  pub host-then-settle : (archive : List ℕ) (owner : ℕ) (new : List ℕ) (p k : ℕ) (list laterList result laterResult laterArchive : List ℕ) (number : ℕ) (appended : List ℕ)
+      → HostPreviews archive owner new p k list laterList result laterResult laterArchive number → append archive owner new ≡ given appended
+      → HostSettles appended p k list laterList result laterResult number
+
+-- what was kept of an archive, and that an append is undone with it
+pub record Undoes (archive : List ℕ) (new appended : List ℕ) : Type 0 where
+  pub used : ℕ
+  pub place : ℕ
+  pub counted : usedOf archive ≡ given used
+  pub was-zero : linkAt archive place ≡ 0
+  pub wrote : appended ≡ appendAfter archive used place new
+  pub gives-back : undone appended used place (recordAt archive used) ≡ archive
+
+-- an append that isn't refused is undone, on every archive of bytes, sound or not: every byte is as before
+abbrev pub AppendsUndone : Type 0
+AppendsUndone =
+    (archive : List ℕ) (owner : ℕ) (new appended : List ℕ) → AreBytes archive → append archive owner new ≡ given appended → Undoes archive new appended
+
+-- some record under some owner is appended, gives this archive, and is undone
+pub record AppendedTo (archive appended : List ℕ) : Type 0 where
+  pub owner : ℕ
+  pub new : List ℕ
+  pub files : append archive owner new ≡ given appended
+  pub undoes : Undoes archive new appended
+
+-- undoing isn't taking back, which may be refused where an append can be undone, or leave another archive
+pub record UndoingIsNotTakingBack : Type 0 where
+  pub may-be-refused : (archive appended : List ℕ) × AppendedTo archive appended × (takeBack appended ≡ refused lastNotNamedOnce)
+  pub may-lose : (archive appended taken : List ℕ) × AppendedTo archive appended × (takeBack appended ≡ given taken) × (taken ≡ archive → ⊥)
 
 -- ---- the financial correction (02, 5)
 

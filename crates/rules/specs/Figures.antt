@@ -168,7 +168,7 @@ abbrev pub lent : ℕ → List ℤ
 lent places = replicate places (pos 7)
 
 -- number, count, total, links, and the list afterwards
-abbrev results : Outcome Settlement → List ℤ → List ℤ
+abbrev pub results : Outcome Settlement → List ℤ → List ℤ
 results o list = pos (answerOf o .number) ∷ pos (answerOf o .count) ∷ answerOf o .total ∷ pos (answerOf o .links) ∷ listAfter o list
 
 abbrev pub settling : List ℕ → ℕ → ℕ → ℕ → List ℤ
@@ -391,7 +391,7 @@ filingsA =
     ∷ []
 
 -- what the C entry leaves: its number, the list's bytes, the result part
-abbrev hosted : Outcome Settlement → List ℕ → List ℕ → List ℕ
+abbrev pub hosted : Outcome Settlement → List ℕ → List ℕ → List ℕ
 hosted o list result = numberOf o ∷ hostListAfter o list ++ hostResultAfter o result
 
 abbrev pub hosting : List ℕ → ℕ → ℕ → List ℕ → List ℕ → List ℕ

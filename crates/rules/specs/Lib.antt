@@ -16,6 +16,7 @@ pub mod Filing
 pub mod Audit
 pub mod ReadBack
 pub mod TakeBack
+pub mod Preview
 pub mod Correction
 pub mod Output
 pub mod Promises
@@ -24,4 +25,5 @@ pub mod Figures
 pub mod DateFigures
 pub mod OctoberFigures
 pub mod TakeBackFigures
+pub mod PreviewFigures
 pub mod CorrectionFigures

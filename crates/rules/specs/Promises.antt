@@ -16,6 +16,7 @@ use Rattle.rules.specs.Host.{hostSettle, hostListAfter, hostResultAfter}
 use Rattle.rules.specs.Filing.{fresh, append, archiveAfter, isShown, shown}
 use Rattle.rules.specs.Audit.{audit}
 use Rattle.rules.specs.TakeBack.{takeBack}
+use Rattle.rules.specs.Preview.{preview, hostPreview}
 use Rattle.rules.specs.Correction.{correction, Corrected, correctedOf}
 
 -- demand 3 of one call that isn't refused: the list that it leaves and the total that it gives keep to the exact fractions
@@ -48,6 +49,19 @@ pub record Appends (archive : List ℕ) (owner : ℕ) (new later : List ℕ) (nu
 pub record TakesBack (archive later : List ℕ) (number : ℕ) : Type 0 where
   pub answers : number ≡ numberOf (takeBack archive)
   pub leaves : later ≡ archiveAfter (takeBack archive) archive
+
+-- preview, with append's owner and record and settle's places and list: the archive is lent for writing, and is as before, refused or not
+pub record Previews (archive : List ℕ) (owner : ℕ) (new : List ℕ) (p k : ℕ) (list laterList : List ℤ) (later : List ℕ) (answer : Answer) : Type 0 where
+  pub answers : answer ≡ answerOf (preview archive owner new p k (length list))
+  pub leaves-list : laterList ≡ listAfter (preview archive owner new p k (length list)) list
+  pub leaves-archive : later ≡ archive
+
+-- the same for the operator's host
+pub record HostPreviews (archive : List ℕ) (owner : ℕ) (new : List ℕ) (p k : ℕ) (list laterList result laterResult laterArchive : List ℕ) (number : ℕ) : Type 0 where
+  pub answers : number ≡ numberOf (hostPreview archive owner new p k (length list) (length result))
+  pub leaves-list : laterList ≡ hostListAfter (hostPreview archive owner new p k (length list) (length result)) list
+  pub leaves-result : laterResult ≡ hostResultAfter (hostPreview archive owner new p k (length list) (length result)) result
+  pub leaves-archive : laterArchive ≡ archive
 
 -- show hands back a part of the lent archive itself: its bytes, the block that it lies in, and the place there
 pub record Shows (archive : RefT (List ℕ)) (n : ℕ) (part : RefT (List ℕ)) : Type 0 where

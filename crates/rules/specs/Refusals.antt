@@ -1,6 +1,6 @@
 -- The refusal numbers of 01, 'Refused sheets', and 02 by name; src/refusal.rt has the same names for the code.
 use Prim.Native.Nat.{ℕ}
-use mathlib.Core.List.{List, [], _∷_}
+use mathlib.Core.List.{List, [], _∷_, _++_}
 
 -- length not 32 × 1..65,535, text or U wrong
 abbrev pub notArchive : ℕ
@@ -114,3 +114,7 @@ takeBackRefusals = notArchive ∷ lastNotNamedOnce ∷ []
 
 abbrev pub correctionRefusals : List ℕ
 correctionRefusals = unequalLists ∷ badEnergies ∷ badPrice ∷ []
+
+-- append's come first
+abbrev pub previewRefusals : List ℕ
+previewRefusals = appendRefusals ++ settleRefusals

@@ -13,7 +13,9 @@
 //! 7 delivery day (a = quarter; the holidays, 4 bytes each, as list; the lent day, 8 bytes, as result part): number,
 //! the day afterwards; 8 take back: number, hash of the archive;
 //! 9 correction (the amounts as list, the balanced energies as archive, the prices as record, 8 bytes each; the lent
-//! cents and remainder, 8 bytes each, as result part): number, cents and remainder afterwards.
+//! cents and remainder, 8 bytes each, as result part): number, cents and remainder afterwards;
+//! 10 preview (a = p, b = k; as record first the owner, 8 bytes, then the new record, 32 bytes or another number of
+//! them): number, hash of the list, hash of the result part, hash of the archive.
 //! Each line starts with the call.
 
 #[path = "shared/host.rs"]
@@ -44,10 +46,11 @@ const PROGRAM: u8 = 6;
 const DELIVERY_DAY: u8 = 7;
 const TAKE_BACK: u8 = 8;
 const CORRECTION: u8 = 9;
+const PREVIEW: u8 = 10;
 
 /// Each call's numbers; show has 0 for a record and 1 for the empty part, delivery day also 1 for day 0, the program 0
 /// for an M line.
-const NUMBERS: [(u8, &str, &[u32]); 9] = [
+const NUMBERS: [(u8, &str, &[u32]); 10] = [
     (SETTLE, "settle", &[0, 1, 2, 3, 4, 5, 6, 7, 8, 9, 10, 11, 12, 13, 18]),
     (SHOW, "show (0 a record, 1 the empty part)", &[0, 1]),
     (FRESH, "fresh", &[0, 1]),
@@ -57,6 +60,7 @@ const NUMBERS: [(u8, &str, &[u32]); 9] = [
     (DELIVERY_DAY, "delivery day (1 for day 0)", &[0, 1, 18]),
     (TAKE_BACK, "take back", &[0, 1, 19]),
     (CORRECTION, "correction", &[0, 20, 21, 22]),
+    (PREVIEW, "preview", &[0, 1, 2, 3, 4, 5, 6, 7, 8, 9, 10, 11, 12, 13, 14, 15, 16, 18]),
 ];
 
 #[derive(Clone, Debug, Default)]
@@ -92,6 +96,10 @@ impl Case {
                 let (list, archive, record) = (bytes(amounts), bytes(balanced), bytes(prices));
                 let result = [hash(&list), !hash(&record)].map(u64::to_le_bytes).concat();
                 Case { call: CORRECTION, list, result, archive, record, ..none }
+            }
+            Call::Preview { archive, owner, record, p, k, list, result } => {
+                let record = [owner.to_le_bytes().to_vec(), record].concat();
+                Case { call: PREVIEW, a: p, b: k, list, result, archive, record }
             }
         }
     }
@@ -155,6 +163,13 @@ impl Case {
                 let number = host::correction(&amounts, &balanced, &prices, &mut cents, &mut remainder);
                 (format!("{call} {number} {cents} {remainder}"), vec![number])
             }
+            PREVIEW => {
+                let (owner, new) = record.split_at(8);
+                let owner = u64::from_le_bytes(owner.try_into().expect("8 bytes"));
+                let number = host::preview(archive, owner, new, *a, *b, list, result);
+                let (list, result, archive) = (hash(list), hash(result), hash(archive));
+                (format!("{call} {number} {list:016x} {result:016x} {archive:016x}"), vec![number])
+            }
             _ => {
                 let input = folder.join("input");
                 fs::write(&input, archive)?;
@@ -209,7 +224,7 @@ fn hash(bytes: &[u8]) -> u64 {
     bytes.iter().fold(0xcbf2_9ce4_8422_2325, |hash, &byte| (hash ^ u64::from(byte)).wrapping_mul(0x100_0000_01b3))
 }
 
-/// Further calls on an archive: settle twice, show, append, audit, take back.
+/// Further calls on an archive: settle twice, show, append, audit, take back, preview of the record appended.
 fn further(seed: u64, index: u64, archive: &[u8]) -> Vec<Case> {
     let mut rng = Rng::new(seed ^ 0x4675_7274_6865_7200, index);
     let all = (archive.len() / RECORD) as u64;
@@ -229,9 +244,13 @@ fn further(seed: u64, index: u64, archive: &[u8]) -> Vec<Case> {
     let mut new = rng.bytes(RECORD);
     new[0] = kind;
     new[4..if matches!(kind, PLANT | MEASURE) { 16 } else { 8 }].fill(0);
-    cases.push(Case { record: new, ..case(APPEND, owner, 0) });
+    cases.push(Case { record: new.clone(), ..case(APPEND, owner, 0) });
     cases.push(case(AUDIT, 0, 0));
     cases.push(case(TAKE_BACK, 0, 0));
+    let record = [owner.to_le_bytes().to_vec(), new].concat();
+    let (p, k) = rng.pick(&[(1, 1), (1, 1), (1, 2), (2, 1), (2, 2)]);
+    let length = 8 * rng.below(20) + rng.below(8);
+    cases.push(Case { list: rng.bytes(length), result: rng.bytes(24), record, ..case(PREVIEW, p, k) });
     cases
 }
 
@@ -280,7 +299,7 @@ fn ask(seed: u64, archives: usize, folder: &Path, program: &Path) -> io::Result<
     fs::create_dir_all(folder)?;
     let mut cases = BufWriter::new(File::create(folder.join("cases"))?);
     let mut lines = BufWriter::new(File::create(folder.join("lines"))?);
-    let mut calls = [0u64; 10];
+    let mut calls = [0u64; 11];
     let mut numbers: BTreeMap<(u8, u32), u64> = BTreeMap::new();
     let mut october = [[0u64; 4]; 3];
     let mut length = 0;

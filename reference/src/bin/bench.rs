@@ -235,6 +235,32 @@ fn append(repetitions: usize, versions: &[Version], length: usize, rng: &mut Rng
     medians(repetitions, versions[0].places.len(), &mut sides)
 }
 
+/// Times the preview of one more quarter behind so many; nothing is to be undone.
+fn preview(repetitions: usize, versions: &[Version], length: usize, rng: &mut Rng) -> Vec<f64> {
+    let (before, owner, _) = with_room(length, rng);
+    let empty = (vec![0; 8 * (length + 1)], [0; 24]);
+    let (mut archive, (mut list, mut result)) = (before.clone(), empty.clone());
+    assert_eq!(fast::host_preview(&mut archive, owner, &APPENDED, 1, 1, &mut list, &mut result), 0);
+    assert!(archive == before, "the archive stays");
+    let mut sides: Vec<Side> = Vec::new();
+    for version in versions {
+        let (mut own, (mut own_list, mut own_result)) = (before.clone(), empty.clone());
+        for place in &version.places {
+            assert_eq!(place.preview(&mut own, owner, &APPENDED, 1, 1, &mut own_list, &mut own_result), 0);
+            assert!(own == before && own_list == list && own_result == result, "library and fast differ");
+        }
+        sides.push(Box::new(move |at| {
+            let (place, list, result) = (&version.places[at], black_box(&mut own_list), black_box(&mut own_result));
+            black_box(place.preview(black_box(&mut own), owner, black_box(&APPENDED), 1, 1, list, result));
+        }));
+    }
+    sides.push(Box::new(move |_| {
+        let (list, result) = (black_box(&mut list), black_box(&mut result));
+        black_box(fast::host_preview(black_box(&mut archive), owner, black_box(&APPENDED), 1, 1, list, result));
+    }));
+    medians(repetitions, versions[0].places.len(), &mut sides)
+}
+
 /// 65,535 records of 22 plants that are filed side by side, quarter by quarter, 2,976 quarters each but for the last.
 fn side_by_side(rng: &mut Rng) -> Vec<u8> {
     let mut plants: Vec<Plant> = (0..22).map(|_| sheet(3, 2, 2, 1, 2_976, rng)).collect();
@@ -389,6 +415,15 @@ fn main() {
     header("Append at the end of a chain of quarters (and taking the record off again)", "ns per call", &versions);
     for length in [10, 100, 1_000, 10_000, 60_000] {
         row(&format!("{length} quarters"), &append(repetitions, &versions, length, rng), 1.0);
+    }
+
+    if versions.iter().all(Version::previews) {
+        header("Preview of one more quarter (other Spitz, requested)", "ns per call", &versions);
+        // Numbers of its own, so that the later inputs are the same in every version.
+        let rng = &mut Rng::new(7, 12);
+        for (length, name) in [(4, "behind 4 quarters"), (96, "behind 96 quarters"), (2_975, "behind 2,975 quarters")] {
+            row(name, &preview(repetitions, &versions, length, rng), 1.0);
+        }
     }
 
     // Numbers of their own, so that the later inputs are those of the bench before these rows.

@@ -2,7 +2,7 @@
 //!
 //! Argument: the directory. Exit status 1 if a refusal number, a pairing or a wrong reading is not reached.
 //!
-//! A call is 36 bytes, little-endian: which call (4), its two numbers (8 each), and 4 bytes each for how many bytes
+//! A call is 44 bytes, little-endian: which call (4), its three numbers (8 each), and 4 bytes each for how many bytes
 //! follow for the archive's start, the archive's size, how many bytes of a new record follow then, and the list's
 //! places. Archive and list are otherwise as the calls before left them, so a long archive is written once.
 //!
@@ -10,12 +10,14 @@
 //! and taking back's of the later archive, show's of its part, whose length is the count. Delivery day has the quarter
 //! as its first number, the holidays in place of the record, 4 bytes each, and the day as its count. The correction has
 //! the counts of amounts and of balanced energies as its numbers, the three lists one after another in place of the
-//! record, 8 bytes to a number, the remainder as its count and the cents as its total.
+//! record, 8 bytes to a number, the remainder as its count and the cents as its total. The preview has p, k and the
+//! owner as its numbers, count, total and links as settle has them, and as checksum that of the later archive with that
+//! of the later list mixed in. The third number is 0 in every other call.
 
-use reference::archive::{used, DATE, NONAVAILABLE, RECORD};
+use reference::archive::{link, record, used, DATE, FIRST, NONAVAILABLE, RECORD, SECOND};
 use reference::builder::*;
 use reference::calendar::{first_day, LAST};
-use reference::generate::{self, Call, BOUNDED, NUMBERS, SETTLED};
+use reference::generate::{self, Call, Case, BOUNDED, NUMBERS, SETTLED};
 use reference::rng::Rng;
 use reference::settle::{first_quarter, reading_places, terms, Answer, Pairing, OCTOBER};
 use reference::slips::{self, Of, Slip, FURTHER, SLIPS};
@@ -36,6 +38,7 @@ const SEED: u64 = 5;
 const LOOKED_AT: u64 = 20_000;
 /// The first generated calls of at most `SMALL` bytes are all taken, later ones where they reach something rare.
 const TAKEN: usize = 120;
+const PREVIEWS_TAKEN: usize = 24;
 const SMALL: usize = 640;
 const LARGE: usize = 8_192;
 
@@ -64,6 +67,7 @@ enum Step<'a> {
     DeliveryDay { quarter: u64, holidays: &'a [u32] },
     TakeBack,
     Correction { amounts: &'a [i64], balanced: &'a [i64], prices: &'a [i64] },
+    Preview { owner: u64, record: &'a [u8], p: u64, k: u64, places: usize },
 }
 
 use Step::*;
@@ -145,6 +149,17 @@ fn reaches(archive: &[u8], list: &[i64], step: Step) -> Vec<String> {
             number("correction", right.0);
             told(Of::Correction, |slip| correction(slip) != right)
         }
+        Preview { owner, record, p, k, places } => {
+            let bytes: Vec<u8> = list[..places].iter().flat_map(|amount| amount.to_le_bytes()).collect();
+            let preview = |slip| {
+                let (mut later, mut list, mut result) = (archive.to_vec(), bytes.clone(), [0; 24]);
+                let number = slips::preview(slip, &mut later, owner, record, p, k, &mut list, &mut result);
+                (number, later, list, result)
+            };
+            let right = preview(Slip::None);
+            number("preview", right.0);
+            told(Of::Preview, |slip| preview(slip) != right)
+        }
     };
     reached.extend(told.iter().map(|slip| format!("{slip:?}")));
     reached
@@ -179,13 +194,20 @@ fn elsewhere(slip: Slip, of: Of) -> bool {
     of == Of::Program
         || matches!(slip, ResultFirst | ResultLonger | ZeroedResult | RaggedPlace | ListWritten | DueWritten)
         || matches!(slip, CentsWritten | CentsRemainderWritten | CentsEmptyKept)
+        || matches!(slip, PreviewResultFirst | PreviewResultSecond | PreviewResultLonger | PreviewListWritten)
+        || matches!(slip, PreviewResultZeroed | PreviewResultZeroedAppend)
 }
 
 /// Everything that has to be reached, and how often a generated call is taken for it.
 fn wanted() -> Vec<(String, u64)> {
     let mut wanted = Vec::new();
     for (call, numbers) in NUMBERS {
-        wanted.extend(numbers.iter().map(|number| (format!("{call} {number}"), 6)));
+        let share = |number| match (call, number) {
+            ("preview", 0) => 18,
+            ("preview", _) => 3,
+            _ => 6,
+        };
+        wanted.extend(numbers.iter().map(|&number| (format!("{call} {number}"), share(number))));
     }
     wanted.extend(SHOWS.map(|how| (how.to_string(), 4)));
     for (pairing, direction) in SETTLED {
@@ -196,7 +218,7 @@ fn wanted() -> Vec<(String, u64)> {
     }
     for &(slip, of, _, _) in SLIPS {
         if !elsewhere(slip, of) {
-            wanted.push((format!("{slip:?}"), 2));
+            wanted.push((format!("{slip:?}"), if of == Of::Preview { 1 } else { 2 }));
         }
     }
     // Of the further ones those of taking back and of the correction.
@@ -212,6 +234,8 @@ struct Cases {
     calls: Vec<u8>,
     lines: String,
     reached: BTreeMap<String, u64>,
+    /// The archive of 2,976 quarters.
+    long: Vec<u8>,
 }
 
 impl Cases {
@@ -222,6 +246,7 @@ impl Cases {
             *self.reached.entry(what).or_default() += 1;
         }
         let none = Vec::new();
+        let mut third: u64 = 0;
         let (name, first, second, record, places): (u32, u64, u64, Vec<u8>, usize) = match step {
             Settle { p, k, places } => (1, p, k, none, places),
             Append { owner, record } => (2, owner, 0, record.to_vec(), 0),
@@ -239,10 +264,15 @@ impl Cases {
                 let record = numbers.iter().flat_map(|number| number.to_le_bytes()).collect();
                 (8, amounts.len() as u64, balanced.len() as u64, record, 0)
             }
+            Preview { owner, record, p, k, places } => {
+                third = owner;
+                (9, p, k, record.to_vec(), places)
+            }
         };
         self.calls.extend(name.to_le_bytes());
-        self.calls.extend(first.to_le_bytes());
-        self.calls.extend(second.to_le_bytes());
+        for number in [first, second, third] {
+            self.calls.extend(number.to_le_bytes());
+        }
         for length in [given.len(), size, record.len(), places] {
             self.calls.extend((length as u32).to_le_bytes());
         }
@@ -279,15 +309,20 @@ impl Cases {
                 let number = reference::host_correction(amounts, balanced, prices, &mut cents, &mut remainder);
                 (Answer { count: remainder, total: cents, ..Answer::refused(number) }, 0)
             }
+            Preview { owner, p, k, .. } => {
+                let answer = reference::preview(archive, owner, &record, p, k, list);
+                (answer, mix(sum_of_bytes(archive), sum_of_list(list)))
+            }
         };
         let Answer { number, count, total, links } = answer;
         writeln!(self.lines, "{number} {count} {total} {links} {sum}").expect("a string takes every line");
     }
 
     /// Generated calls that reach what fewer than its share of calls have reached; the first `all` whatever they reach.
-    fn generated(&mut self, wanted: &[(String, u64)], most: usize, mut all: usize) {
+    /// Previews are taken apart, behind the other calls.
+    fn generated(&mut self, made: fn(u64, u64) -> Case, wanted: &[(String, u64)], most: usize, mut all: usize) {
         for index in 0..LOOKED_AT {
-            let call = generate::call(SEED, index).call;
+            let call = made(SEED, index).call;
             let (archive, step): (&[u8], Step) = match &call {
                 Call::Settle { archive, p, k, list, .. } => (archive, Settle { p: *p, k: *k, places: list.len() / 8 }),
                 Call::Append { archive, owner, record } => (archive, Append { owner: *owner, record }),
@@ -297,6 +332,9 @@ impl Cases {
                 Call::DeliveryDay { quarter, holidays } => (&[], DeliveryDay { quarter: *quarter, holidays }),
                 Call::TakeBack { archive } => (archive, TakeBack),
                 Call::Correction { amounts, balanced, prices } => (&[], Correction { amounts, balanced, prices }),
+                Call::Preview { archive, owner, record, p, k, list, .. } => {
+                    (archive, Preview { owner: *owner, record, p: *p, k: *k, places: list.len() / 8 })
+                }
             };
             let length = match step {
                 Correction { amounts, balanced, prices } => 8 * (amounts.len() + balanced.len() + prices.len()),
@@ -414,6 +452,7 @@ impl Cases {
         self.run(&[], size, Audit);
         self.run(&[], size, TakeBack);
         self.run(&[], size, settle(2_976));
+        self.long = self.archive[..size].to_vec();
         let mut fewer = self.archive[..RECORD].to_vec();
         fewer[4..8].copy_from_slice(&257u32.to_le_bytes());
         self.run(&fewer, size, TakeBack);
@@ -446,6 +485,38 @@ impl Cases {
         self.correct(&amounts, &balanced, &prices);
         self.correct(&amounts, &[], &prices[..1]);
     }
+
+    /// A quarter of case a seen before and after it is filed, then at the limits of the chains.
+    fn previewed(&mut self, rng: &mut Rng) {
+        let mut sheet = case_a();
+        let last = sheet.measures[0].quarters.pop().expect("three quarters");
+        let filed = file(&[sheet], &Layout { spare: 1, noise: true, ..Layout::PLAIN }, rng);
+        let record = quarter_record(&last, rng, true);
+        let (size, owner) = (filed.bytes.len(), filed.plants[0].measures[0].number);
+        let ahead = |places| Preview { owner, record: &record, p: 1, k: 1, places };
+        self.run(&filed.bytes, size, ahead(3));
+        self.run(&[], size, ahead(2));
+        self.run(&[], size, Settle { p: 1, k: 1, places: 3 });
+        self.run(&[], size, Append { owner, record: &record });
+        self.run(&[], size, Settle { p: 1, k: 1, places: 3 });
+        self.run(&[], size, ahead(4));
+
+        // The long chain again, of which the calls behind it left all but the start: a 2,977th quarter, a 2,976th.
+        let long = std::mem::take(&mut self.long);
+        let (size, owner) = (long.len(), first_measure(&long));
+        let ahead = |places| Preview { owner, record: &record, p: 1, k: 1, places };
+        self.run(&long[..LARGE + RECORD], size, ahead(2_977));
+        assert!(self.archive[..size] == long, "the long chain");
+        self.run(&[], size, TakeBack);
+        self.run(&[], size, ahead(2_976));
+        self.run(&[], size, ahead(2_975));
+    }
+}
+
+/// The first plant's first measure.
+fn first_measure(archive: &[u8]) -> u64 {
+    let plant = record(archive, link(archive, FIRST));
+    link(plant, SECOND)
 }
 
 /// Technology and variant.
@@ -505,8 +576,9 @@ fn main() -> io::Result<ExitCode> {
         calls: Vec::new(),
         lines: String::new(),
         reached: BTreeMap::new(),
+        long: Vec::new(),
     };
-    cases.generated(&wanted, SMALL, TAKEN);
+    cases.generated(generate::other_call, &wanted, SMALL, TAKEN);
     let rng = &mut Rng::new(SEED, 0);
     for (pairing, direction) in SETTLED {
         cases.filed(pairing, direction, rng);
@@ -514,7 +586,10 @@ fn main() -> io::Result<ExitCode> {
     cases.long(rng);
     cases.corrected(rng);
     // What no small archive reaches.
-    cases.generated(&wanted, LARGE, 0);
+    cases.generated(generate::other_call, &wanted, LARGE, 0);
+    cases.generated(generate::preview, &wanted, SMALL, PREVIEWS_TAKEN);
+    cases.previewed(rng);
+    cases.generated(generate::preview, &wanted, LARGE, 0);
 
     let directory = Path::new(&directory);
     fs::create_dir_all(directory.join("data"))?;

@@ -177,6 +177,21 @@ fn compare(call: &Call, index: u64) -> Result<(), String> {
             }
             Ok(())
         }
+        Call::Preview { archive, owner, record, p, k, list, result } => {
+            let (mut list_after, mut result_after) = (list.clone(), result.clone());
+            let expected = reference::host_preview(archive, *owner, record, *p, *k, &mut list_after, &mut result_after);
+            let mut lent = Lent::new(archive, index);
+            let mut lent_record = Lent::new(record, index / 8);
+            let mut lent_list = Lent::new(list, index / 64);
+            let mut lent_result = Lent::new(result, index / 512);
+            let (list, result) = (lent_list.part(), lent_result.part());
+            let found = host::preview(lent.part(), *owner, lent_record.part(), *p, *k, list, result);
+            number(expected, found)?;
+            lent.check("archive", archive)?;
+            lent_record.check("record", record)?;
+            lent_list.check("list", &list_after)?;
+            lent_result.check("result", &result_after)
+        }
     }
 }
 
@@ -208,6 +223,18 @@ fn describe(call: &Call) -> String {
         Call::Correction { amounts, balanced, prices } => {
             format!("correction\namounts {amounts:?}\nbalanced {balanced:?}\nprices {prices:?}")
         }
+        Call::Preview { archive, owner, record, p, k, list, result } => format!(
+            "preview owner {owner} p {p} k {k}\nrecord ({} bytes):\n{}\nlist ({} bytes):\n{}\nresult ({} bytes):\n{}\n\
+             archive ({} bytes):\n{}",
+            record.len(),
+            hex(record),
+            list.len(),
+            hex(list),
+            result.len(),
+            hex(result),
+            archive.len(),
+            hex(archive)
+        ),
     }
 }
 
@@ -222,7 +249,7 @@ fn main() -> ExitCode {
             return ExitCode::from(2);
         }
     };
-    let names = ["settle", "fresh", "append", "show", "audit", "delivery day", "take back", "correction"];
+    let names = ["settle", "fresh", "append", "show", "audit", "delivery day", "take back", "correction", "preview"];
     let mut calls = names.map(|name| (name, 0u64));
     for index in first..first + count {
         let call = generate::call(seed, index).call;
@@ -241,6 +268,7 @@ fn main() -> ExitCode {
             Call::DeliveryDay { .. } => 5,
             Call::TakeBack { .. } => 6,
             Call::Correction { .. } => 7,
+            Call::Preview { .. } => 8,
         };
         calls[kind].1 += 1;
     }

@@ -2,12 +2,14 @@
 //! examples/host.c has to print, DIR/host. DIR/dated is what examples/dated.c has to print: a dated measure and a
 //! delivery day of request 1. DIR/takeback is what examples/takeback.c has to print: a quarter filed under the wrong
 //! measure, taken back and filed under its own. DIR/correction is what examples/correction.c has to print: a measure's
-//! financial correction, of each quarter and of all.
+//! financial correction, of each quarter and of all. DIR/preview is what examples/preview.c has to print: what a measure
+//! would give with one more quarter, before and after that is filed.
 
 use reference::archive::RECORD;
 use reference::builder::*;
 use reference::calendar::{first_day, Day};
 use reference::rng::Rng;
+use reference::settle::Answer;
 use std::fmt::Write;
 use std::path::Path;
 use std::{env, fs, io};
@@ -133,6 +135,62 @@ fn corrected() -> String {
     text
 }
 
+/// Count, total, links and amounts, or the refusal in words.
+fn looked_at(text: &mut String, when: &str, answer: Answer, list: &[i64]) {
+    let Answer { number, count, total, links } = answer;
+    match number {
+        0 => {
+            writeln!(text, "{when}: quarters {count}, total {total} Wh, links {links}").expect(TAKES);
+            for (place, amount) in (1..=count).zip(list) {
+                writeln!(text, "  quarter {place}: {amount} Wh").expect(TAKES);
+            }
+        }
+        9 => writeln!(text, "{when}: refused with 9, a needed field is out of range").expect(TAKES),
+        16 => writeln!(text, "{when}: refused with 16, the archive has no unused record left").expect(TAKES),
+        _ => unreachable!("the example has no other refusal"),
+    }
+}
+
+/// Other Pauschal, 1 MW: case a in 7 records, its last quarter seen before it is filed. Unused records hold old bytes.
+fn previewed() -> String {
+    let mut archive = vec![0; 7 * RECORD];
+    assert_eq!(reference::fresh(&mut archive), 0);
+    archive[RECORD..].fill(9);
+    let rng = &mut Rng::new(0, 0);
+    let append = |archive: &mut [u8], owner, record: &[u8]| {
+        assert_eq!(reference::append(archive, owner, record), 0);
+    };
+    let plant = Plant { technology: 3, variant: 2, nominal: 1_000_000, curve: Vec::new(), measures: Vec::new() };
+    let measure = Measure { direction: 2, execution: 2, first: 0, before: Vec::new(), quarters: Vec::new() };
+    append(&mut archive, 0, &plant_record(&plant, rng, false));
+    append(&mut archive, 1, &measure_record(&measure, rng, false));
+    append(&mut archive, 2, &before_record(&Before { mark: 1, measured: 800_000, weather: 0 }, rng, false));
+    let quarter = |time, measured| {
+        quarter_record(&Quarter { month: 7, time, measured, ..Quarter::default() }, &mut Rng::new(0, 0), false)
+    };
+    append(&mut archive, 2, &quarter(40, 500_001));
+    append(&mut archive, 2, &quarter(41, 500_001));
+
+    let mut text = String::new();
+    let mut list = [0; 4];
+    let answer = reference::settle(&archive, 1, 1, &mut list);
+    looked_at(&mut text, "now", answer, &list);
+    // The archive is only read, so every byte is as before.
+    let third = quarter(42, 500_002);
+    let answer = reference::preview(&archive, 2, &third, 1, 1, &mut list);
+    looked_at(&mut text, "with one more quarter", answer, &list);
+    let wide = 1_000_000_001;
+    let answer = reference::preview(&archive, 2, &quarter(42, wide), 1, 1, &mut list);
+    looked_at(&mut text, &format!("with a measured power of {wide} W"), answer, &list);
+    writeln!(text, "after the previews: every byte as before").expect(TAKES);
+    append(&mut archive, 2, &third);
+    let answer = reference::settle(&archive, 1, 1, &mut list);
+    looked_at(&mut text, "filed", answer, &list);
+    let answer = reference::preview(&archive, 2, &quarter(43, 500_002), 1, 1, &mut list);
+    looked_at(&mut text, "with yet another quarter", answer, &list);
+    text
+}
+
 fn main() -> io::Result<()> {
     let directory = env::args().nth(1).expect("usage: example DIR");
     let directory = Path::new(&directory);
@@ -153,5 +211,6 @@ fn main() -> io::Result<()> {
     fs::write(directory.join("host"), host)?;
     fs::write(directory.join("dated"), dated())?;
     fs::write(directory.join("takeback"), taken_back())?;
-    fs::write(directory.join("correction"), corrected())
+    fs::write(directory.join("correction"), corrected())?;
+    fs::write(directory.join("preview"), previewed())
 }

@@ -22,11 +22,12 @@ use versions::{Place, Version};
 
 const USAGE: &str = "usage: once SIDE CALL ROW SIZE.. | once rows FOLDER..";
 
-/// The row of append, and that of the correction.
+/// The row of append, of the correction and of the preview.
 const QUARTERS: &str = "quarters";
 
 type Settle = fn(&[u8], u64, u64, &mut [u8], &mut [u8]) -> u32;
 type Correction = fn(&[i64], &[i64], &[i64], &mut i64, &mut u64) -> u32;
+type Preview = fn(&mut [u8], u64, &[u8], u64, u64, &mut [u8], &mut [u8]) -> u32;
 
 /// Calls in Rust, made as those of the library are: by pointers, with the same arguments.
 struct Calls {
@@ -35,6 +36,7 @@ struct Calls {
     audit: fn(&[u8]) -> u32,
     take_back: fn(&mut [u8]) -> u32,
     correction: Correction,
+    preview: Preview,
 }
 
 const FAST: Calls = Calls {
@@ -43,6 +45,7 @@ const FAST: Calls = Calls {
     audit: fast::audit,
     take_back: fast::take_back,
     correction: fast::correction,
+    preview: fast::host_preview,
 };
 
 const NOTHING: Calls = Calls {
@@ -51,6 +54,7 @@ const NOTHING: Calls = Calls {
     audit: |_| 0,
     take_back: |_| 0,
     correction: |_, _, _, _, _| 0,
+    preview: |_, _, _, _, _, _, _| 0,
 };
 
 enum Side {
@@ -138,6 +142,21 @@ fn once(side: Side, call: &str, row: &str, sizes: &[usize]) -> u32 {
                 }
             }
         }
+        ("preview", &[length]) => {
+            assert_eq!(row, QUARTERS, "a row of the preview");
+            // As long for fewer quarters and taken first, so that it lies at the same place.
+            let (mut list, mut result) = (vec![0; 8 * 2_976], [0; 24]);
+            let list = &mut list[..8 * (length + 1)];
+            let (mut archive, owner, _) = with_room(length, &mut Rng::new(7, 7));
+            match side {
+                Library(place) => {
+                    counted(&mut || place.preview(&mut archive, owner, &APPENDED, 1, 1, list, &mut result));
+                }
+                Rust(calls) => {
+                    counted(&mut || (calls.preview)(&mut archive, owner, &APPENDED, 1, 1, list, &mut result));
+                }
+            }
+        }
         _ => panic!("{}", USAGE),
     }
     answer
@@ -161,6 +180,9 @@ fn rows(versions: &[Version]) {
     print("append", QUARTERS);
     if versions.iter().all(Version::corrects) {
         print("correction", QUARTERS);
+    }
+    if versions.iter().all(Version::previews) {
+        print("preview", QUARTERS);
     }
 }
 

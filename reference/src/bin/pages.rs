@@ -11,7 +11,9 @@
 //! the columns of `DATES`, must be those of the plain calendar. FORMAT section 18 has the layout of the corrections,
 //! which stand there and in RULES section 15, in tables with the columns Amounts, Balanced, Prices and Result: a list
 //! is `none`, or numbers and repeated ones, as in `-1, 2,976 times 5`; the result is a number, or for 0 cents and
-//! remainder, as in `0: -1; remainder 999,999`.
+//! remainder, as in `0: -1; remainder 999,999`. FORMAT section 19 has the previews, in tables with the columns of the
+//! calls: append's owner and record, then settle's places, as in `preview 2: 05 07 28; 1, 1, list of 2`; the result is
+//! settle's, and every byte of the archive must be as before.
 
 #[cfg(feature = "compare")]
 #[path = "shared/host.rs"]
@@ -44,18 +46,35 @@ const UNTOUCHED_CENTS: (i64, u64) = (i64::MIN, u64::MAX);
 
 #[derive(Clone, Debug)]
 enum Call {
-    Settle { p: u64, k: u64, list: usize, result: usize },
-    Append { owner: u64, new: Vec<u8> },
+    Settle(Settled),
+    Append(Filed),
     Audit,
     Show { number: u64 },
     Fresh,
     DeliveryDay { quarter: u64, holidays: Vec<u32> },
     TakeBack,
     Correction { amounts: Vec<i64>, balanced: Vec<i64>, prices: Vec<i64> },
+    Preview { filed: Filed, settled: Settled },
     Program,
 }
 
-/// All that can be seen of a call: number, later bytes of the archive or the list, result part, day, cents with their
+/// Append's owner and record.
+#[derive(Clone, Debug)]
+struct Filed {
+    owner: u64,
+    new: Vec<u8>,
+}
+
+/// Settle's places, the bytes of its list and of its result part.
+#[derive(Clone, Debug)]
+struct Settled {
+    p: u64,
+    k: u64,
+    list: usize,
+    result: usize,
+}
+
+/// All that can be seen of a call: number, later bytes of the archive and the list, result part, day, cents with their
 /// remainder; or the lines.
 #[derive(Clone, Debug, PartialEq, Eq)]
 enum Outcome {
@@ -65,6 +84,7 @@ enum Outcome {
     Shown(u64),
     Delivered { number: u32, day: u64 },
     Corrected { number: u32, cents: (i64, u64) },
+    Previewed { number: u32, archive: Vec<u8>, list: Vec<u8>, result: Vec<u8> },
     Lines(String),
 }
 
@@ -148,37 +168,47 @@ fn changed(archive: &[u8], text: &str) -> Result<Vec<u8>, Fault> {
     Ok(archive)
 }
 
+/// Owner and record, as in `2: 05 07 28` or `2: 05 of 31 bytes`; bytes that aren't named are 00.
+fn filed(text: &str) -> Result<Filed, Fault> {
+    let (owner, new) = text.split_once(": ").ok_or(format!("no record: {text}"))?;
+    let (bytes, length) = match new.split_once(" of ") {
+        None => (hex(new)?, RECORD),
+        Some((bytes, length)) => (hex(bytes)?, number(length.strip_suffix(" bytes").unwrap_or(length))?),
+    };
+    let mut new = bytes;
+    new.resize(length, 0);
+    Ok(Filed { owner: number(owner)?, new })
+}
+
+/// Places, list and result part, as in `1, 1, list of 2, result of 23 bytes`.
+fn settled(text: &str) -> Result<Settled, Fault> {
+    let words: Vec<&str> = text.split(", ").collect();
+    if words.len() < 2 {
+        return Err(format!("no places: {text}"));
+    }
+    let (mut list, mut result) = (8 * PLACES, 24);
+    for word in &words[2..] {
+        if let Some(bytes) = between(word, "list of ", " bytes") {
+            list = number(bytes)?;
+        } else if let Some(places) = word.strip_prefix("list of ") {
+            list = 8 * number::<usize>(places)?;
+        } else if let Some(bytes) = between(word, "result of ", " bytes") {
+            result = number(bytes)?;
+        } else {
+            return Err(format!("no list or result part: {text}"));
+        }
+    }
+    Ok(Settled { p: number(words[0])?, k: number(words[1])?, list, result })
+}
+
 fn call(text: &str) -> Result<Call, Fault> {
     let (name, rest) = text.split_once(' ').unwrap_or((text, ""));
     match name {
-        "settle" => {
-            let words: Vec<&str> = rest.split(", ").collect();
-            if words.len() < 2 {
-                return Err(format!("no call: {text}"));
-            }
-            let (mut list, mut result) = (8 * PLACES, 24);
-            for word in &words[2..] {
-                if let Some(bytes) = between(word, "list of ", " bytes") {
-                    list = number(bytes)?;
-                } else if let Some(places) = word.strip_prefix("list of ") {
-                    list = 8 * number::<usize>(places)?;
-                } else if let Some(bytes) = between(word, "result of ", " bytes") {
-                    result = number(bytes)?;
-                } else {
-                    return Err(format!("no call: {text}"));
-                }
-            }
-            Ok(Call::Settle { p: number(words[0])?, k: number(words[1])?, list, result })
-        }
-        "append" => {
-            let (owner, new) = rest.split_once(": ").ok_or(format!("no call: {text}"))?;
-            let (bytes, length) = match new.split_once(" of ") {
-                None => (hex(new)?, RECORD),
-                Some((bytes, length)) => (hex(bytes)?, number(length.strip_suffix(" bytes").unwrap_or(length))?),
-            };
-            let mut new = bytes;
-            new.resize(length, 0);
-            Ok(Call::Append { owner: number(owner)?, new })
+        "settle" => Ok(Call::Settle(settled(rest)?)),
+        "append" => Ok(Call::Append(filed(rest)?)),
+        "preview" => {
+            let (record, places) = rest.split_once("; ").ok_or(format!("no call: {text}"))?;
+            Ok(Call::Preview { filed: filed(record)?, settled: settled(places)? })
         }
         "show" => Ok(Call::Show { number: number(rest)? }),
         "audit" => Ok(Call::Audit),
@@ -209,41 +239,52 @@ fn numbers(text: &str) -> Result<Vec<i64>, Fault> {
     Ok(list)
 }
 
+/// List and result part after a settle or a preview, from what the page says.
+fn lent_after(settled: &Settled, text: &str) -> Result<(u32, Vec<u8>, Vec<u8>), Fault> {
+    let (head, rest) = text.split_once(": ").unwrap_or((text, ""));
+    let (mut list, mut result) = (vec![UNTOUCHED; settled.list], vec![UNTOUCHED; settled.result]);
+    let refusal: u32 = number(head)?;
+    if refusal == 0 {
+        let parts: Vec<&str> = rest.split("; ").collect();
+        let (total, links) = match parts[..] {
+            [_, total, links] => (total.strip_prefix("total "), links.strip_prefix("links ")),
+            _ => (None, None),
+        };
+        let (total, links) = match (total, links) {
+            (Some(total), Some(links)) => (number::<i64>(total)?, number::<i64>(links)?),
+            _ => return Err(format!("no result of settle: {text}")),
+        };
+        let amounts: Vec<i64> = match parts[0].split_once(" times ") {
+            Some((count, amount)) => vec![number(amount)?; number(count)?],
+            None => parts[0].split(", ").map(number).collect::<Result<_, _>>()?,
+        };
+        if list.len() < 8 * amounts.len() || result.len() != 24 {
+            return Err(format!("no room for {text}"));
+        }
+        for (place, amount) in list.chunks_mut(8).zip(&amounts) {
+            place.copy_from_slice(&amount.to_le_bytes());
+        }
+        for (part, value) in result.chunks_mut(8).zip([amounts.len() as i64, total, links]) {
+            part.copy_from_slice(&value.to_le_bytes());
+        }
+    }
+    Ok((refusal, list, result))
+}
+
 /// What the page says, as an outcome.
 fn outcome(example: &Example) -> Result<Outcome, Fault> {
     let (archive, text) = (&example.archive, &example.result[..]);
     let (head, rest) = text.split_once(": ").unwrap_or((text, ""));
     match &example.call {
-        Call::Settle { list, result, .. } => {
-            let (mut list, mut result) = (vec![UNTOUCHED; *list], vec![UNTOUCHED; *result]);
-            let refusal: u32 = number(head)?;
-            if refusal == 0 {
-                let parts: Vec<&str> = rest.split("; ").collect();
-                let (total, links) = match parts[..] {
-                    [_, total, links] => (total.strip_prefix("total "), links.strip_prefix("links ")),
-                    _ => (None, None),
-                };
-                let (total, links) = match (total, links) {
-                    (Some(total), Some(links)) => (number::<i64>(total)?, number::<i64>(links)?),
-                    _ => return Err(format!("no result of settle: {text}")),
-                };
-                let amounts: Vec<i64> = match parts[0].split_once(" times ") {
-                    Some((count, amount)) => vec![number(amount)?; number(count)?],
-                    None => parts[0].split(", ").map(number).collect::<Result<_, _>>()?,
-                };
-                if list.len() < 8 * amounts.len() || result.len() != 24 {
-                    return Err(format!("no room for {text}"));
-                }
-                for (place, amount) in list.chunks_mut(8).zip(&amounts) {
-                    place.copy_from_slice(&amount.to_le_bytes());
-                }
-                for (part, value) in result.chunks_mut(8).zip([amounts.len() as i64, total, links]) {
-                    part.copy_from_slice(&value.to_le_bytes());
-                }
-            }
-            Ok(Outcome::Settled { number: refusal, list, result })
+        Call::Settle(settled) => {
+            let (number, list, result) = lent_after(settled, text)?;
+            Ok(Outcome::Settled { number, list, result })
         }
-        Call::Append { new, .. } => {
+        Call::Preview { settled, .. } => {
+            let (number, list, result) = lent_after(settled, text)?;
+            Ok(Outcome::Previewed { number, archive: archive.clone(), list, result })
+        }
+        Call::Append(Filed { new, .. }) => {
             let mut later = archive.clone();
             let refusal: u32 = number(head)?;
             if refusal == 0 {
@@ -323,6 +364,7 @@ trait Calls {
     fn delivery_day(&self, quarter: u64, holidays: &[u32], day: &mut u64) -> u32;
     fn take_back(&self, archive: &mut [u8]) -> u32;
     fn correction(&self, lists: [&[i64]; 3], cents: &mut (i64, u64)) -> u32;
+    fn preview(&self, archive: &mut [u8], filed: &Filed, at: (u64, u64), list: &mut [u8], result: &mut [u8]) -> u32;
     /// The program's lines, if this implementation has a program.
     fn program(&self, input: &[u8]) -> io::Result<Option<Vec<u8>>>;
 }
@@ -358,6 +400,16 @@ impl Calls for Plain {
     fn correction(&self, [amounts, balanced, prices]: [&[i64]; 3], cents: &mut (i64, u64)) -> u32 {
         reference::host_correction(amounts, balanced, prices, &mut cents.0, &mut cents.1)
     }
+    fn preview(
+        &self,
+        archive: &mut [u8],
+        filed: &Filed,
+        (p, k): (u64, u64),
+        list: &mut [u8],
+        result: &mut [u8],
+    ) -> u32 {
+        reference::host_preview(archive, filed.owner, &filed.new, p, k, list, result)
+    }
     fn program(&self, input: &[u8]) -> io::Result<Option<Vec<u8>>> {
         let mut lines = Vec::new();
         reference::program(input, &mut lines)?;
@@ -389,6 +441,16 @@ impl Calls for Slip {
     }
     fn correction(&self, [amounts, balanced, prices]: [&[i64]; 3], cents: &mut (i64, u64)) -> u32 {
         slips::correction(*self, amounts, balanced, prices, &mut cents.0, &mut cents.1)
+    }
+    fn preview(
+        &self,
+        archive: &mut [u8],
+        filed: &Filed,
+        (p, k): (u64, u64),
+        list: &mut [u8],
+        result: &mut [u8],
+    ) -> u32 {
+        slips::preview(*self, archive, filed.owner, &filed.new, p, k, list, result)
     }
     fn program(&self, input: &[u8]) -> io::Result<Option<Vec<u8>>> {
         Ok(Some(slips::program(*self, input)))
@@ -426,6 +488,16 @@ impl Calls for Proved {
     fn correction(&self, [amounts, balanced, prices]: [&[i64]; 3], cents: &mut (i64, u64)) -> u32 {
         host::correction(amounts, balanced, prices, &mut cents.0, &mut cents.1)
     }
+    fn preview(
+        &self,
+        archive: &mut [u8],
+        filed: &Filed,
+        (p, k): (u64, u64),
+        list: &mut [u8],
+        result: &mut [u8],
+    ) -> u32 {
+        host::preview(archive, filed.owner, &filed.new, p, k, list, result)
+    }
     fn program(&self, input: &[u8]) -> io::Result<Option<Vec<u8>>> {
         self.lines(input)
     }
@@ -452,12 +524,12 @@ impl Proved {
 fn run(calls: &dyn Calls, example: &Example) -> io::Result<Option<Outcome>> {
     let archive = &example.archive[..];
     Ok(Some(match &example.call {
-        Call::Settle { p, k, list, result } => {
+        Call::Settle(Settled { p, k, list, result }) => {
             let (mut list, mut result) = (vec![UNTOUCHED; *list], vec![UNTOUCHED; *result]);
             let number = calls.settle(archive, *p, *k, &mut list, &mut result);
             Outcome::Settled { number, list, result }
         }
-        Call::Append { owner, new } => {
+        Call::Append(Filed { owner, new }) => {
             let mut later = archive.to_vec();
             let number = calls.append(&mut later, *owner, new);
             Outcome::Changed { number, archive: later }
@@ -484,6 +556,12 @@ fn run(calls: &dyn Calls, example: &Example) -> io::Result<Option<Outcome>> {
             let number = calls.correction([amounts, balanced, prices], &mut cents);
             Outcome::Corrected { number, cents }
         }
+        Call::Preview { filed, settled: Settled { p, k, list, result } } => {
+            let (mut later, mut list, mut result) =
+                (archive.to_vec(), vec![UNTOUCHED; *list], vec![UNTOUCHED; *result]);
+            let number = calls.preview(&mut later, filed, (*p, *k), &mut list, &mut result);
+            Outcome::Previewed { number, archive: later, list, result }
+        }
         Call::Program => match calls.program(archive)? {
             Some(lines) => Outcome::Lines(String::from_utf8_lossy(&lines).into_owned()),
             None => return Ok(None),
@@ -494,16 +572,17 @@ fn run(calls: &dyn Calls, example: &Example) -> io::Result<Option<Outcome>> {
 /// An outcome in the words of a page, as far as it can be said shortly.
 fn in_words(outcome: &Outcome) -> String {
     match outcome {
-        Outcome::Settled { number: 0, list, result } => {
+        Outcome::Settled { number: 0, list, result } | Outcome::Previewed { number: 0, list, result, .. } => {
             let value = |bytes: &[u8]| i64::from_le_bytes(bytes.try_into().expect("8 bytes"));
             let results: Vec<i64> = result.chunks_exact(8).map(value).collect();
             let amounts: Vec<String> =
                 list.chunks_exact(8).take(results[0] as usize).map(|place| grouped(value(place))).collect();
             format!("0: {}; total {}; links {}", amounts.join(", "), grouped(results[1]), grouped(results[2]))
         }
-        Outcome::Settled { number, .. } | Outcome::Changed { number, .. } | Outcome::Number(number) => {
-            number.to_string()
-        }
+        Outcome::Settled { number, .. }
+        | Outcome::Previewed { number, .. }
+        | Outcome::Changed { number, .. }
+        | Outcome::Number(number) => number.to_string(),
         Outcome::Shown(place) => format!("place {place}"),
         Outcome::Delivered { number, day: UNTOUCHED_DAY } => format!("{number}, the day left"),
         Outcome::Delivered { number, day } => format!("{number}: {}", grouped(*day as i64)),

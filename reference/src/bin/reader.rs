@@ -1,7 +1,7 @@
-//! Reader of redispatch archives: settle, show, fresh, append, audit, the program, delivery day, take back and
-//! correction.
-//! Written from docs/FORMAT.md and docs/RULES.md, version 1.5, alone ("F" and "R" below, with section numbers):
-//! F 1 to 18, and of R the rules, 1 to 6 and 13 to 15, and the worked numbers, 7, 8, 10 and 13 to 15.
+//! Reader of redispatch archives: settle, show, fresh, append, audit, the program, delivery day, take back, correction
+//! and preview.
+//! Written from docs/FORMAT.md and docs/RULES.md, version 1.6, alone ("F" and "R" below, with section numbers):
+//! F 1 to 19, and of R the rules, 1 to 6 and 13 to 15, and the worked numbers, 7, 8, 10 and 13 to 15.
 //!
 //! Build: rustc -O --edition 2021 reader.rs
 //! Standard input: cases, one after the other. Standard output: one line for each case.
@@ -711,6 +711,18 @@ fn correction_c(amounts: &[i64], balanced: &[i64], prices: &[i64], cents: &mut i
     }
 }
 
+// ---------------------------------------------------------------- preview (F 19)
+
+/// Preview from C (F 7): append's tests, then settle on the archive as that append would leave it. Both are done on a
+/// copy, so that the archive stays.
+fn preview_c(archive: &[u8], owner: u64, record: &[u8], p: u64, k: u64, list: &mut [u8], result: &mut [u8]) -> u32 {
+    let mut copy = archive.to_vec();
+    match append(&mut copy, owner, record) {
+        0 => settle_c(&copy, p, k, list, result),
+        number => number,
+    }
+}
+
 // ---------------------------------------------------------------- the program (F 12)
 
 fn push_number(line: &mut Vec<u8>, value: i64) {
@@ -883,6 +895,16 @@ fn run_cases(input: &mut impl Read, output: &mut impl Write) -> io::Result<()> {
                 let number = correction_c(&amounts, &balanced, &prices, &mut cents, &mut remainder);
                 writeln!(output, "9 {number} {cents} {remainder}")?;
             }
+            10 => {
+                if record.len() < 8 {
+                    return Err(no_case("call 10 without an owner".into()));
+                }
+                let (owner, new) = record.split_at(8);
+                let owner = u64::from_le_bytes(owner.try_into().unwrap());
+                let number = preview_c(&archive, owner, new, a, b, &mut list, &mut result);
+                let hashes = [&list, &result, &archive].map(|part| hash(part));
+                writeln!(output, "10 {number} {:016x} {:016x} {:016x}", hashes[0], hashes[1], hashes[2])?;
+            }
             other => return Err(no_case(format!("no call {other}"))),
         }
     }
@@ -928,8 +950,74 @@ mod self_test {
         03 02 02 00 00 00 00 00 00 00 00 00 0a 00 00 00 00 00 00 00 00 00 00 00 00 00 00 00 00 00 00 00
         05 07 25 00 00 00 00 00 00 00 00 00 00 00 00 00 00 00 00 00 00 00 00 00 00 00 00 00 00 00 00 00";
 
+    /// F 15.
+    const ARCHIVE_B: &str = "
+        41 41 52 42  0a 00 00 00  01 00 00 00
+        01 01 01 00  00 00 00 00  02 00 00 00  04 00 00 00  80 84 1e 00
+        02 00 00 00  03 00 00 00
+        02 00 00 00  00 00 00 00  c8 00 00 00  80 84 1e 00
+        03 02 02 00  00 00 00 00  05 00 00 00  09 00 00 00
+        04 01 00 00  06 00 00 00  a0 bb 0d 00  00 00 00 00  64 00 00 00
+        04 01 00 00  07 00 00 00  a0 bb 0d 00  00 00 00 00  64 00 00 00
+        04 01 00 00  08 00 00 00  a0 bb 0d 00  00 00 00 00  64 00 00 00
+        04 01 00 00  00 00 00 00  a0 bb 0d 00  00 00 00 00  64 00 00 00
+        05 07 28 00  00 00 00 00  30 57 05 00  00 00 00 00  96 00 00 00";
+
+    /// F 15.
+    const ARCHIVE_G: &str = "
+        41 41 52 42  07 00 00 00  01 00 00 00
+        01 02 01 00  00 00 00 00  00 00 00 00  02 00 00 00  40 42 0f 00
+        03 02 02 00  00 00 00 00  03 00 00 00  06 00 00 00
+        04 01 00 00  04 00 00 00  e0 93 04 00  00 00 00 00  f4 01 00 00
+        04 01 00 00  05 00 00 00  e0 93 04 00  00 00 00 00  f4 01 00 00
+        04 01 00 00  00 00 00 00  e0 93 04 00  00 00 00 00  f4 01 00 00
+        05 07 28 00  00 00 00 00  80 38 01 00  00 00 00 00  20 03 00 00";
+
+    /// R 12.
+    const ARCHIVE_OTHER: &str = "
+        41 41 52 42  0d 00 00 00  01 00 00 00
+        01 03 01 00  06 00 00 00  00 00 00 00  02 00 00 00  80 4f 12 00
+        03 02 01 00  00 00 00 00  00 00 00 00  03 00 00 00
+        05 01 48 00  04 00 00 00  56 28 09 00  c0 27 09 00  00 00 00 00  30 8c 11 00
+        05 01 49 00  05 00 00 00  ac 22 09 00  c0 27 09 00  00 00 00 00  31 8c 11 00
+        05 01 4a 00  00 00 00 00  90 2f 09 00  c0 27 09 00
+        01 03 02 00  00 00 00 00  00 00 00 00  07 00 00 00  00 35 0c 00
+        03 02 03 00  00 00 00 00  08 00 00 00  0b 00 00 00
+        04 00 00 00  09 00 00 00  00 d0 07 00
+        04 01 00 00  0a 00 00 00  03 c4 09 00
+        04 01 00 00  00 00 00 00  98 fe 09 00
+        05 01 0a 00  0c 00 00 00  80 1a 06 00  80 1a 06 00
+        05 01 0b 00  00 00 00 00  7e 1a 06 00  80 1a 06 00";
+
+    /// R 12.
+    const ARCHIVE_POSITIVE: &str = "
+        41 41 52 42  0c 00 00 00  01 00 00 00
+        01 03 01 00  06 00 00 00  00 00 00 00  02 00 00 00  60 e3 16 00
+        03 01 01 00  00 00 00 00  00 00 00 00  03 00 00 00
+        05 02 20 00  04 00 00 00  80 6d 0d 00  a0 bb 0d 00  00 00 00 00  21 a1 07 00
+        05 02 21 00  05 00 00 00  9c 0f 0e 00  a0 bb 0d 00  00 00 00 00  21 a1 07 00
+        05 02 22 00  00 00 00 00  b0 e2 0d 00  a0 bb 0d 00  00 00 00 00  f0 7e 0e 00
+        01 03 02 00  00 00 00 00  00 00 00 00  07 00 00 00  60 e3 16 00
+        03 01 02 00  00 00 00 00  08 00 00 00  09 00 00 00
+        04 01 00 00  00 00 00 00  e0 93 04 00
+        05 02 20 00  0a 00 00 00  63 ae 0a 00
+        05 02 21 00  0b 00 00 00  62 ae 0a 00
+        05 02 22 00  00 00 00 00  63 ae 0a 00";
+
     fn hex(text: &str) -> Vec<u8> {
         text.split_whitespace().map(|byte| u8::from_str_radix(byte, 16).unwrap()).collect()
+    }
+
+    /// The bytes of a text, then 00 up to 32.
+    fn padded(text: &str) -> Vec<u8> {
+        let mut bytes = hex(text);
+        bytes.resize(RECORD, 0);
+        bytes
+    }
+
+    /// A dump: each line a record; bytes that are missing at its end are 00 (F 13).
+    fn dump(text: &str) -> Vec<u8> {
+        text.lines().filter(|line| !line.trim().is_empty()).flat_map(padded).collect()
     }
 
     struct Tests {
@@ -2012,6 +2100,261 @@ mod self_test {
         }
     }
 
+    /// Amounts, total and links, or the refusal number.
+    type Outcome<'a> = Result<(&'a [i64], i64, u64), Refusal>;
+
+    /// One preview from C with owner, new record, p and k, on a list and a result part full of ee, of these lengths:
+    /// what it gives, and the line of its case, which covers every byte of list, result part and archive.
+    fn preview(
+        tests: &mut Tests,
+        name: &str,
+        bytes: &[u8],
+        (owner, new, p, k): (u64, &[u8], u64, u64),
+        (list_length, result_length): (usize, usize),
+        expected: Outcome,
+    ) {
+        let (mut list, mut result) = (vec![0xee; list_length], vec![0xee; result_length]);
+        let (mut later_list, mut later_result) = (list.clone(), result.clone());
+        let input = case(10, p, k, [&list, &result, bytes, &[&owner.to_le_bytes()[..], new].concat()]);
+
+        let (number, amounts) = match expected {
+            Ok((amounts, _, _)) => (0, amounts),
+            Err(number) => (number, &[] as &[i64]),
+        };
+        if let Ok((_, total, links)) = expected {
+            let numbers = [amounts.len() as i64, total, links as i64];
+            later_list[..8 * amounts.len()].copy_from_slice(&amounts.iter().flat_map(le_bytes).collect::<Vec<u8>>());
+            later_result = numbers.iter().flat_map(le_bytes).collect();
+        }
+
+        let found = preview_c(bytes, owner, new, p, k, &mut list, &mut result);
+        let places = &numbers_of_eight(&list)[..amounts.len()];
+        tests.same(name, (found, places, &result), (number, amounts, &later_result));
+
+        let mut output = Vec::new();
+        let ended = run_cases(&mut &input[..], &mut output).is_ok();
+        let [list, result, archive] = [&later_list[..], &later_result, bytes].map(hash);
+        let line = format!("10 {number} {list:016x} {result:016x} {archive:016x}\n");
+        tests.same(&format!("{name}, every byte"), (ended, String::from_utf8(output).unwrap()), (true, line));
+    }
+
+    fn le_bytes(number: &i64) -> [u8; 8] {
+        number.to_le_bytes()
+    }
+
+    /// An archive with records of one byte added at the end, then changed.
+    fn changed(bytes: &[u8], (records, byte): (usize, u8), changes: &[Set]) -> Vec<u8> {
+        let mut bytes = [bytes, &vec![byte; RECORD * records]].concat();
+        set(&mut bytes, changes);
+        bytes
+    }
+
+    /// The rows of F 19.
+    fn section_19(tests: &mut Tests) {
+        const FOURTH: &str = "05 07 2b 00 00 00 00 00 22 a1 07";
+        const BEFORE_G: &str = "04 01 00 00 00 00 00 00 e0 93 04 00 00 00 00 00 f4 01";
+        const OF_POSITIVE: &str = "05 02 23 00 00 00 00 00 9c 0f 0e 00 a0 bb 0d 00 00 00 00 00 21 a1 07";
+        const OF_OTHER: &str = "05 01 0c 00 00 00 00 00 00 1a 06";
+        const OF_BOTH: &str = "05 01 0c 00 00 00 00 00 00 1a 06 00 c0 27 09 00 00 00 00 00 30 8c 11";
+        const OF_MONTH: &str = "05 00 00 00 00 00 00 00 e8 03 00 00 00 00 00 00 00 00 00 00 b8 0b";
+        const PLANT_2: &str = "01 03 02 00 00 00 00 00 00 00 00 00 00 00 00 00 40 42 0f";
+        const THREE: &[i64] = &[74_999, 75_000, 75_000];
+        const UNEVEN: Outcome = Ok((&[74_999, 75_000, 75_000, 74_999], 299_998, 7));
+        const EVEN: Outcome = Ok((&[74_999, 75_000, 75_000, 75_000], 299_999, 7));
+
+        let [a, b, g, other, positive] = [CASE_A, ARCHIVE_B, ARCHIVE_G, ARCHIVE_OTHER, ARCHIVE_POSITIVE].map(dump);
+        let month = filed((OTHER, SPITZ, 1_000_000), (NEGATIVE, 2), &vec![quarter(1_000, 0, 0, 3_000); 2_977]);
+        let mut parts: Vec<Vec<u8>> = (0..=96).map(|n| before_quarter(1_000 * n + n * n, 5 * n)).collect();
+        parts.push(record(QUARTER, 6, 48, &[(16, 701)]));
+        let day = filed((SOLAR, SPITZ, 1_000_000), (NEGATIVE, 2), &parts);
+        let all_500 = vec![500; 2_976];
+
+        // Archive; records added and their bytes, changes; owner, new record, p and k.
+        type Row<'a> = (&'a [u8], (usize, u8), &'a [Set], u64, &'a str, (u64, u64), Outcome<'a>);
+        let rows: &[Row] = &[
+            (
+                &a,
+                (0, 0),
+                &[Number(0, 4, 6), Number(5, 4, 0)],
+                2,
+                "05 07 2a 00 00 00 00 00 22 a1 07",
+                (1, 1),
+                Ok((THREE, 224_999, 6)),
+            ),
+            (&a, (1, 0), &[], 2, "05 07 2b 00 00 00 00 00 20 a1 07", (1, 1), EVEN),
+            (&a, (2, 9), &[], 2, "05 07 2b 00 00 00 00 00 20 a1 07", (1, 1), EVEN),
+            (&a, (1, 9), &[], 2, "05 0d 60", (1, 1), Ok((&[74_999, 75_000, 75_000, 200_000], 424_999, 7))),
+            (
+                &a,
+                (0, 0),
+                &[Number(0, 4, 4), Number(2, 12, 0)],
+                2,
+                "05 07 28 00 00 00 00 00 21 a1 07",
+                (1, 1),
+                Ok((&[74_999], 74_999, 4)),
+            ),
+            (&a, (1, 0), &[], 2, "04 01 00 00 00 00 00 00 40 42 0f", (1, 1), Ok((THREE, 224_999, 7))),
+            (&a, (1, 9), &[], 1, "02 00 00 00 00 00 00 00 1e", (1, 1), Ok((THREE, 224_999, 6))),
+            (&a, (1, 0), &[], 1, "03 02 02", (1, 1), Ok((THREE, 224_999, 6))),
+            (&a, (1, 0), &[], 1, "03 02 02", (1, 2), Err(11)),
+            (&a, (1, 0), &[], 0, PLANT_2, (2, 1), Err(5)),
+            (
+                &b,
+                (1, 0),
+                &[Number(7, 4, 0)],
+                4,
+                "04 01 00 00 00 00 00 00 a0 bb 0d 00 00 00 00 00 64",
+                (1, 1),
+                Ok((&[250_000], 250_000, 9)),
+            ),
+            (
+                &b,
+                (1, 0),
+                &[Number(2, 4, 0)],
+                1,
+                "02 00 00 00 00 00 00 00 c8 00 00 00 80 84 1e",
+                (1, 1),
+                Ok((&[250_000], 250_000, 9)),
+            ),
+            (
+                &g,
+                (1, 0),
+                &[Number(3, 16, 0), Number(4, 16, 0), Number(5, 16, 0)],
+                2,
+                BEFORE_G,
+                (1, 1),
+                Ok((&[460_000], 460_000, 7)),
+            ),
+            (&positive, (1, 9), &[], 2, OF_POSITIVE, (1, 1), Ok((&[-94_999, -100_000, 0, -100_000], -294_999, 6))),
+            (&other, (1, 9), &[], 7, OF_OTHER, (2, 1), Ok((&[60_000, 60_002, 60_032], 180_034, 9))),
+            (&other, (1, 9), &[], 7, OF_OTHER, (1, 1), Ok((&[137_462, 137_500, 0], 274_962, 5))),
+            // Links that are U already.
+            (
+                &other,
+                (1, 9),
+                &[Number(5, 4, 13)],
+                7,
+                OF_BOTH,
+                (1, 1),
+                Ok((&[137_462, 137_500, 0, 137_500], 412_462, 6)),
+            ),
+            (&a, (1, 9), &[Number(1, 8, 7)], 2, FOURTH, (1, 1), UNEVEN),
+            (&a, (1, 9), &[Number(3, 4, 7)], 2, FOURTH, (1, 1), Err(3)),
+            (&a, (1, 0), &[Number(1, 12, 0)], 2, FOURTH, (1, 1), Err(5)),
+            // All four bytes of U and of the link.
+            (&a, (249, 0), &[Number(0, 4, 255)], 2, FOURTH, (1, 1), UNEVEN),
+            (&a, (251, 9), &[Number(0, 4, 257)], 2, FOURTH, (1, 1), UNEVEN),
+            // Counts.
+            (
+                &month,
+                (0, 0),
+                &[Number(0, 4, 2_978), Number(2_977, 4, 0)],
+                2,
+                OF_MONTH,
+                (1, 1),
+                Ok((&all_500, 1_488_000, 2_978)),
+            ),
+            (&month, (0, 0), &[Number(0, 4, 2_979), Number(2_978, 4, 0)], 2, OF_MONTH, (1, 1), Err(8)),
+            (&day, (1, 0), &[Number(98, 4, 0)], 2, "04 01", (1, 1), Err(8)),
+            // Settle's refusals.
+            (&a, (1, 9), &[], 2, "05 07 2b 00 00 00 00 00 01 ca 9a 3b", (1, 1), Err(9)),
+            (&b, (1, 0), &[], 1, "02 00 00 00 00 00 00 00 c8", (1, 1), Err(10)),
+            (&a, (1, 0), &[Number(1, 16, 99_999)], 2, FOURTH, (1, 1), Err(6)),
+            (&a, (1, 0), &[Number(2, 16, 3_506_398)], 2, FOURTH, (1, 1), Err(18)),
+            (&a, (1, 9), &[], 2, FOURTH, (0, 1), Err(4)),
+            (&a, (1, 0), &[], 2, FOURTH, (1, 2), Err(5)),
+            (&a, (1, 0), &[], 2, FOURTH, (4_294_967_297, 1), Err(4)),
+            // Append's refusals.
+            (&a, (1, 0), &[], 4_294_967_298, FOURTH, (1, 1), Err(15)),
+            (&a, (0, 0), &[], 2, FOURTH, (1, 1), Err(16)),
+            (&a, (0, 0), &[], 2, FOURTH, (0, 1), Err(16)),
+            (&a, (0, 0), &[], 1, FOURTH, (1, 1), Err(15)),
+            (&a, (1, 0), &[], 1, FOURTH, (1, 1), Err(15)),
+            (&a, (1, 0), &[], 1, FOURTH, (1, 2), Err(15)),
+            (&a, (1, 0), &[], 2, "06", (1, 1), Err(14)),
+            (&other, (1, 0), &[Number(12, 4, 12)], 7, FOURTH, (1, 1), Err(2)),
+            (&other, (1, 0), &[Byte(12, 0, 4)], 7, FOURTH, (1, 1), Err(3)),
+            (&a, (1, 0), &[Number(6, 4, 7)], 2, FOURTH, (1, 1), Err(2)),
+        ];
+        for (row, &(bytes, added, changes, owner, new, (p, k), expected)) in rows.iter().enumerate() {
+            let bytes = changed(bytes, added, changes);
+            let call = (owner, &padded(new)[..], p, k);
+            preview(tests, &format!("F 19 row {row}"), &bytes, call, (24_000, 24), expected);
+        }
+
+        // All over `a` with one more record, p = 1, k = 1: the byte of that record, changes, owner; lengths in bytes of
+        // list and result part.
+        type Lent<'a> = (u8, &'a [Set], u64, (usize, usize), Outcome<'a>);
+        let rows: &[Lent] = &[
+            (0, &[Number(2, 16, 3_506_398)], 2, (24, 24), Err(18)),
+            (9, &[], 2, (24, 24), Err(13)),
+            (9, &[], 2, (39, 24), UNEVEN),
+            (9, &[], 2, (24_000, 25), Err(13)),
+            (0, &[], 1, (16, 24), Err(15)),
+            (0, &[], 1, (24_000, 0), Err(15)),
+        ];
+        for &(byte, changes, owner, lengths, expected) in rows {
+            let bytes = changed(&a, (1, byte), changes);
+            let name = format!("F 19 owner {owner}, list and result part of {lengths:?}");
+            preview(tests, &name, &bytes, (owner, &padded(FOURTH), 1, 1), lengths, expected);
+        }
+        let new = &padded("05")[..31];
+        preview(tests, "F 19 record of 31 bytes", &one_more(a.clone()), (2, new, 1, 1), (24_000, 24), Err(14));
+        preview(tests, "F 19 cut to 33 bytes", &a[..33], (9, &[9, 0, 0], 0, 0), (0, 0), Err(1));
+
+        // What the rows say of settle alone, with p = 1, k = 1.
+        let rows: &[(&[u8], &[Set], u32)] = &[
+            (&a, &[Number(0, 4, 4), Number(2, 12, 0)], 8),
+            (&b, &[Number(7, 4, 0)], 11),
+            (&b, &[Number(2, 4, 0)], 10),
+            (&g, &[Number(3, 16, 0), Number(4, 16, 0), Number(5, 16, 0)], 12),
+            (&other, &[Number(5, 4, 13)], 2),
+            (&a, &[], 0),
+            (&other, &[Number(12, 4, 12)], 0),
+        ];
+        for (row, &(bytes, changes, expected)) in rows.iter().enumerate() {
+            let name = format!("F 19 settle alone, row {row}");
+            tests.same(&name, number(&changed(bytes, (1, 0), changes), 1, 1), expected);
+        }
+    }
+
+    /// F 19, the worked case and the statements outside the table.
+    fn section_19_around_the_rows(tests: &mut Tests) {
+        let mut bytes = hex(CASE_A);
+        tests.same("F 19 third quarter taken back", (take_back(&mut bytes), unsigned(&bytes, USED)), (0, 6));
+        let third = quarter(500_002, 0, 0, 0);
+        let three = [74_999, 75_000, 75_000];
+        let two = (vec![74_999, 75_000], (0, 2, 149_999, 5));
+        tests.same("F 19 settle before", (amounts(&bytes), results(&bytes, 1, 1)), two.clone());
+        preview(tests, "F 19 case a", &bytes, (2, &third, 1, 1), (24, 24), Ok((&three, 224_999, 6)));
+        tests.same("F 19 settle after", (amounts(&bytes), results(&bytes, 1, 1)), two);
+
+        // Two links name the new record: take back is 19.
+        let mut bytes = changed(&hex(CASE_A), (1, 9), &[Number(1, 8, 7)]);
+        tests.same("F 19 no take back", [append(&mut bytes, 2, &third), take_back(&mut bytes)], [0, 19]);
+
+        // A new measure without quarters is 8 where no before-quarter is needed, if nothing comes first.
+        let bytes = one_more(dump(ARCHIVE_OTHER));
+        for (direction, expected) in [(NEGATIVE, 8), (3, 7)] {
+            let new = record(MEASURE, direction, 1, &[]);
+            let name = format!("F 19 new measure, direction {direction}");
+            preview(tests, &name, &bytes, (1, &new, 1, 2), (24, 24), Err(expected));
+        }
+
+        // 13 needs a place for the new record only if it is a quarter of the measure.
+        let bytes = one_more(hex(CASE_A));
+        let new = before_quarter(1_000_000, 0);
+        preview(tests, "F 19 no place", &bytes, (2, &new, 1, 1), (24, 24), Ok((&three, 224_999, 7)));
+
+        // k is not cut to 32 bits (F 6); a record of 33 bytes is 14 (F 9); settle's 9 comes before 13 for the result
+        // part (F 7).
+        let longer = [&third[..], &[0]].concat();
+        preview(tests, "F 19 k = 4,294,967,297", &bytes, (2, &third, 1, 4_294_967_297), (32, 24), Err(5));
+        preview(tests, "F 19 record of 33 bytes", &bytes, (2, &longer, 1, 1), (32, 24), Err(14));
+        let new = quarter(1_000_000_001, 0, 0, 0);
+        preview(tests, "F 19 9 before 13", &bytes, (2, &new, 1, 1), (32, 25), Err(9));
+    }
+
     /// One case as it stands in the input.
     fn case(call: u8, a: u64, b: u64, parts: [&[u8]; 4]) -> Vec<u8> {
         let mut bytes = vec![call];
@@ -2028,6 +2371,10 @@ mod self_test {
     fn cases(tests: &mut Tests) {
         tests.same("FNV-1a", [hash(b""), hash(b"foobar")], [0xcbf2_9ce4_8422_2325, 0x8594_4171_f739_67e8]);
         let archive = &hex(CASE_A)[..];
+        let mut shorter = case_a(&[Number(5, 4, 0), Number(0, 4, 6)]);
+        shorter[RECORD * 6..].fill(0);
+        // Owner and new record of a preview.
+        let new = [&2u64.to_le_bytes()[..], &quarter(500_002, 0, 0, 0)].concat();
         let input = [
             case(1, 1, 1, [&[0; 24], &[0; 24], archive, &[]]),
             case(2, 6, 0, [&[], &[], archive, &[]]),
@@ -2042,14 +2389,18 @@ mod self_test {
             case(8, 0, 0, [&[], &[], &archive[..33], &[]]),
             case(9, 0, 0, [&(-1i64).to_le_bytes(), &[0xee; 16], &[0; 8], &1i64.to_le_bytes()]),
             case(9, 0, 0, [&[], &[0xff; 16], &[0; 8], &[]]),
+            case(10, 1, 1, [&[0; 24], &[0; 24], archive, &new]),
+            case(10, 1, 1, [&[0; 24], &[0; 24], &shorter, &new]),
+            case(10, 1, 1, [&[], &[], archive, &new[..8]]),
         ];
-        let mut shorter = case_a(&[Number(5, 4, 0), Number(0, 4, 6)]);
-        shorter[RECORD * 6..].fill(0);
         let (_, list, result) = from_c(archive, 24, 24);
         let text = "M 1 1 3 224999 6\nQ 1 74999\nQ 2 75000\nQ 3 75000\n";
+        let [zeros, none] = [hash(&[0; 24]), hash(&[])];
         let expected = format!(
             "1 0 {:016x} {:016x}\n2 192\n2 224\n3 1 {:016x}\n4 16 {:016x}\n5 0\n6 {:016x} {}\n7 0 9807\n7 18 {}\n\
-            8 0 {:016x}\n8 1 {:016x}\n9 0 -1 999999\n9 22 -1 {}\n",
+            8 0 {:016x}\n8 1 {:016x}\n9 0 -1 999999\n9 22 -1 {}\n\
+            10 16 {zeros:016x} {zeros:016x} {:016x}\n10 0 {:016x} {:016x} {:016x}\n\
+            10 14 {none:016x} {none:016x} {:016x}\n",
             hash(&list),
             hash(&result),
             hash(&archive[..33]),
@@ -2059,7 +2410,12 @@ mod self_test {
             u64::MAX,
             hash(&shorter),
             hash(&archive[..33]),
-            u64::MAX
+            u64::MAX,
+            hash(archive),
+            hash(&list),
+            hash(&result),
+            hash(&shorter),
+            hash(archive)
         );
         let mut output = Vec::new();
         let ended = run_cases(&mut &input.concat()[..], &mut output).is_ok();
@@ -2086,6 +2442,8 @@ mod self_test {
         section_17(&mut tests);
         section_17_around_append(&mut tests);
         corrections(&mut tests);
+        section_19(&mut tests);
+        section_19_around_the_rows(&mut tests);
         sizes(&mut tests);
         println!("{} passed, {} failed", tests.passed, tests.failed);
         (tests.failed != 0) as i32

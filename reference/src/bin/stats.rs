@@ -4,7 +4,7 @@
 //! Exit status 1 if a refusal number, a pairing, a situation or a slip was never reached, or a call made with one fault
 //! got another number.
 
-use reference::archive::{field, link, record, used, ADJUSTED, FIRST, NEXT, NONAVAILABLE, SECOND};
+use reference::archive::{field, link, place, record, used, ADJUSTED, FIRST, NEXT, NONAVAILABLE, SECOND};
 use reference::calendar::{next_days, Date, Day, QuarterHour, LAST};
 use reference::correction::MOST_QUARTERS;
 use reference::filing::names;
@@ -424,6 +424,123 @@ fn corrected(tally: &mut Tally, lists: [&[i64]; 3], number: u32, cents: (i64, u6
     tally.size("corrections beyond 2^53 millionths of a cent", cents.0.unsigned_abs() > 9_007_199_254);
 }
 
+/// What is seen ahead: a record of each kind, for the measure that is settled or for another.
+const AHEAD: [[&str; 2]; 5] = [
+    ["previewed: a plant", "previewed: a plant that is settled, refused with 5"],
+    ["previewed: a curve point of the plant", "previewed: a curve point of another plant"],
+    ["previewed: a measure of the plant", "previewed: a measure of another plant"],
+    ["previewed: a before-quarter of the measure", "previewed: a before-quarter of another measure"],
+    ["previewed: a quarter of the measure", "previewed: a quarter of another measure"],
+];
+
+/// A preview with this number: append's refusals beside settle's, what the record changes, what stands at its place.
+fn ahead(
+    tally: &mut Tally,
+    archive: &[u8],
+    owner: u64,
+    new: &[u8],
+    (p, k): (u64, u64),
+    lent: (&[u8], usize),
+    number: u32,
+) {
+    let (list, result) = lent;
+    let settle = |archive: &[u8]| reference::host_settle(archive, p, k, &mut list.to_vec(), &mut [0; 24]);
+    let mut later = archive.to_vec();
+    let by_append = reference::append(&mut later, owner, new);
+    let without = settle(archive);
+    let good = number == 0;
+    tally.size("previews with an owner beyond 32 bits", owner >> 32 != 0);
+    tally.size("previews with places beyond 32 bits", p >> 32 != 0 || k >> 32 != 0);
+    if by_append != 0 {
+        tally.number("preview, by append", number);
+        tally.size("append's refusals where settle would give 0", without == 0);
+        for (other, what) in [
+            (2, "append's refusals before settle's 2"),
+            (3, "append's refusals before settle's 3"),
+            (4, "append's refusals before 4"),
+            (5, "append's refusals before 5"),
+            (6, "append's refusals before 6"),
+            (7, "append's refusals before 7"),
+            (8, "append's refusals before 8"),
+            (9, "append's refusals before 9"),
+            (10, "append's refusals before 10"),
+            (11, "append's refusals before 11"),
+            (12, "append's refusals before 12"),
+            (13, "append's refusals before 13 for the list"),
+            (18, "append's refusals before 18"),
+        ] {
+            tally.size(what, by_append != 1 && without == other);
+        }
+        tally.size("append's refusals before 13 for the result part", by_append != 1 && without == 0 && result != 24);
+        tally.size("16 where the measure would settle", number == 16 && without == 0);
+        tally.size("16 in an archive of 65,535 records", number == 16 && archive.len() == 65_535 * 32);
+        return;
+    }
+    tally.number("preview, by settle", number);
+    let (used, all) = (link(archive, 4), archive.len() as u64 / 32);
+    let found = place(&later, used + 1, 0, FIRST, 1, p, 4)
+        .map(|plant| (plant, place(&later, used + 1, plant, SECOND, 3, k, 5).ok()))
+        .ok();
+    let whose = match new[0] {
+        1 => found.map_or(false, |(plant, _)| plant == used),
+        2 | 3 => found.map_or(false, |(plant, _)| plant != owner),
+        _ => found.map_or(false, |(_, measure)| measure.map_or(false, |measure| measure != owner)),
+    };
+    let what = AHEAD[usize::from(new[0]) - 1];
+    tally.size(what[0], good && !whose);
+    tally.size(what[1], whose && if new[0] == 1 { number == 5 } else { good });
+    let new_measure = found.map_or(false, |(_, measure)| measure == Some(used));
+    tally.size("previewed: a measure that is settled, refused with 8 or 11", new_measure && matches!(number, 8 | 11));
+
+    // What the record changes.
+    for (before, what) in [
+        (8, "previewed: a first quarter"),
+        (10, "previewed: a second curve point"),
+        (11, "previewed: the before-quarter that was missing"),
+        (12, "previewed: a before-quarter with which B is above 0"),
+        (2, "previewed: a record that a stale link on the way names"),
+    ] {
+        tally.size(what, good && without == before);
+    }
+    for (after, what) in [
+        (8, "8 for the record"),
+        (9, "9 for the record"),
+        (10, "10 for the record"),
+        (13, "13 for the record, where the list is long enough without it"),
+        (18, "18 for the record"),
+    ] {
+        tally.size(what, number == after && without == 0 && (after != 13 || settle(&later) == 13));
+    }
+    tally.size("3 for the record, at a stale link", number == 3 && without == 2);
+    let quarters = quarters(&later, p, k).map_or(0, |quarters| quarters.len());
+    let before = before_quarters(&later, p, k).map_or(0, |before| before.len());
+    tally.size("8 for a 2,977th quarter", number == 8 && without == 0 && quarters == 2_977);
+    tally.size("previewed: a 2,976th quarter", good && quarters == 2_976 && new[0] == 5 && !whose);
+    tally.size("8 for a 97th before-quarter", number == 8 && without == 0 && before == 97);
+    tally.size("previewed: a 96th before-quarter", good && before == 96 && new[0] == 4 && !whose);
+    tally.size("13 for the result part in a preview", number == 13 && result != 24 && settle(&later) == 0);
+
+    // What stands at the place, and what names it.
+    let old = record(archive, used).iter().any(|&byte| byte != 0);
+    let sound = reference::audit(archive) == 0;
+    let stale = !names(archive, used, used).is_empty();
+    for (reached, what) in [
+        (good, ["previewed with zeros at the place", "previewed with old bytes at the place"]),
+        (!good, ["refused by settle with zeros at the place", "refused by settle with old bytes at the place"]),
+    ] {
+        tally.size(what[0], reached && !old);
+        tally.size(what[1], reached && old);
+    }
+    tally.size("previewed in an archive that audit refuses", good && !sound);
+    tally.size("refused by settle in an archive that audit refuses", !good && !sound);
+    tally.size("previewed with a stale link that is U", good && stale);
+    tally.size("refused by settle with a stale link that is U", !good && stale);
+    tally.size("previewed at the last place", good && used + 1 == all);
+    tally.size("previewed as record 255", used == 255);
+    tally.size("previewed as record 256", used == 256);
+    tally.size("previewed as the 65,535th record", used == 65_534);
+}
+
 fn one_call(tally: &mut Tally, seed: u64, index: u64) {
     let case = generate::call(seed, index);
     let number = match case.call {
@@ -560,6 +677,18 @@ fn one_call(tally: &mut Tally, seed: u64, index: u64) {
             });
             Some(number)
         }
+        Call::Preview { archive, owner, record, p, k, list, result } => {
+            let (mut later_list, mut later_result) = (list.clone(), result.clone());
+            let number = reference::host_preview(&archive, owner, &record, p, k, &mut later_list, &mut later_result);
+            tally.number("preview", number);
+            ahead(tally, &archive, owner, &record, (p, k), (&list, result.len()), number);
+            tally.slips(Of::Preview, (number, archive.clone(), later_list, later_result), |slip| {
+                let (mut archive, mut list, mut result) = (archive.clone(), list.clone(), result.clone());
+                let number = slips::preview(slip, &mut archive, owner, &record, p, k, &mut list, &mut result);
+                (number, archive, list, result)
+            });
+            Some(number)
+        }
     };
     if case.expected.is_some() && case.expected != number {
         tally.unexpected += 1;
@@ -619,6 +748,8 @@ fn main() -> ExitCode {
     let mut missed = Vec::new();
     println!("Seed {seed}, {count} calls and {} inputs for the program.", count / 20);
     let mut wanted = NUMBERS.to_vec();
+    wanted.push(("preview, by append", &[1, 2, 3, 14, 15, 16]));
+    wanted.push(("preview, by settle", &[0, 2, 3, 4, 5, 6, 7, 8, 9, 10, 11, 12, 13, 18]));
     wanted.push(("program", &[0, 1, 2, 3, 6, 7, 8, 9, 10, 11, 12, 18]));
     println!("\nNumbers (program: M lines as 0, E lines by number)");
     for &(call, numbers) in &wanted {

@@ -6,12 +6,21 @@ use borrow.Author.Needs.{needs}
 use Rattle.rules.specs.Encoding.{put}
 use Rattle.rules.specs.Filing.{appendAfter}
 use Rattle.rules.proofs.Write.{is-written}
-use Rattle.filing.proofs.Laws.{taken-over}
+use Rattle.filing.proofs.Laws.{taken-over, part-of-32}
 use Rattle.filing.proofs.file.Statement.{statement}
 use Rattle.filing.proofs.file.Tie as tie
 
 slice-aggregate-put-bytes : tie.Need-slice-aggregate-put-bytes
 slice-aggregate-put-bytes c = search needs
+
+sub-put-bytes : tie.Need-sub-put-bytes
+sub-put-bytes c = search needs
+
+part-put-bytes-start : tie.Need-part-put-bytes-start
+part-put-bytes-start c = search needs
+
+part-put-bytes-end : tie.Need-part-put-bytes-end
+part-put-bytes-end c = search needs
 
 put-bytes-requires : tie.Need-put-bytes-requires
 put-bytes-requires c κs = search needs
@@ -44,10 +53,10 @@ returns c =
     let second = third .before .before .before .before in
     let first = second .before .before .before .before in
     let over = first .before .before .before .before in
-    let start = over .before .before .before .before in
+    let start = over .before .before .before .before .before in
     let a = start .args in
     is-written _ _ _ _ _ _
-    (first .put-bytes2 .ensures ∙ ap (λ (l : List ℕ). put (a .archive .now) (32 * a .used) l) (over .put-bytes .ensures ∙ taken-over _ (a .new .now) (start .pre .size)))
+    (first .put-bytes2 .ensures ∙ ap (λ (l : List ℕ). put (a .archive .now) (32 * a .used) l) (over .put-bytes .ensures ∙ ap (put _ 0) (part-of-32 (a .new .now) (start .pre .size)) ∙ taken-over _ (a .new .now) (start .pre .size)))
     (second .put-word .ensures)
     (third .put-word2 .ensures)
 
@@ -56,6 +65,9 @@ file-spec =
     tie.close
     (tie.spec
     slice-aggregate-put-bytes
+    sub-put-bytes
+    part-put-bytes-start
+    part-put-bytes-end
     put-bytes-requires
     mul-put-bytes
     slice-aggregate-put-bytes-2

@@ -34,10 +34,23 @@ mod c {
             cents: *mut i64,
             remainder: *mut u64,
         ) -> u32;
+        pub fn sandegmur_preview(
+            archive: *mut u8,
+            archive_length: usize,
+            owner: u64,
+            record: *const u8,
+            record_length: usize,
+            p: u64,
+            k: u64,
+            list: *mut u8,
+            list_length: usize,
+            result: *mut u8,
+            result_length: usize,
+        ) -> u32;
     }
 }
 
-// Safety, of all eight: pointer and length of every part come from one live slice, and the parts don't overlap.
+// Safety, of all nine: pointer and length of every part come from one live slice, and the parts don't overlap.
 
 pub fn settle(archive: &[u8], p: u64, k: u64, list: &mut [u8], result: &mut [u8]) -> u32 {
     unsafe {
@@ -93,6 +106,32 @@ pub fn correction(amounts: &[i64], balanced: &[i64], prices: &[i64], cents: &mut
             prices.len(),
             cents,
             remainder,
+        )
+    }
+}
+
+pub fn preview(
+    archive: &mut [u8],
+    owner: u64,
+    record: &[u8],
+    p: u64,
+    k: u64,
+    list: &mut [u8],
+    result: &mut [u8],
+) -> u32 {
+    unsafe {
+        c::sandegmur_preview(
+            archive.as_mut_ptr(),
+            archive.len(),
+            owner,
+            record.as_ptr(),
+            record.len(),
+            p,
+            k,
+            list.as_mut_ptr(),
+            list.len(),
+            result.as_mut_ptr(),
+            result.len(),
         )
     }
 }

@@ -118,7 +118,7 @@ pub fn with_room(length: usize, rng: &mut Rng) -> (Vec<u8>, u64, impl Fn(&mut [u
     (filed.bytes, owner, undo)
 }
 
-/// What is appended: a quarter with nothing in it.
+/// What is appended, or seen ahead: a quarter with nothing in it.
 pub const APPENDED: [u8; 32] = {
     let mut record = [0; 32];
     record[0] = 5;

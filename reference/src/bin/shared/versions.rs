@@ -20,6 +20,8 @@ type DeliveryDay = unsafe extern "C" fn(u64, *const u32, usize, *mut u64) -> u32
 type TakeBack = unsafe extern "C" fn(*mut u8, usize) -> u32;
 type Correction =
     unsafe extern "C" fn(*const i64, usize, *const i64, usize, *const i64, usize, *mut i64, *mut u64) -> u32;
+type Preview =
+    unsafe extern "C" fn(*mut u8, usize, u64, *const u8, usize, u64, u64, *mut u8, usize, *mut u8, usize) -> u32;
 
 /// The library at one place of the code.
 pub struct Place {
@@ -32,6 +34,8 @@ pub struct Place {
     take_back: Option<TakeBack>,
     /// None in a version before the correction.
     correction: Option<Correction>,
+    /// None in a version before the preview.
+    preview: Option<Preview>,
 }
 
 pub struct Version {
@@ -69,6 +73,10 @@ impl Version {
     pub fn corrects(&self) -> bool {
         self.places.iter().all(|place| place.correction.is_some())
     }
+
+    pub fn previews(&self) -> bool {
+        self.places.iter().all(|place| place.preview.is_some())
+    }
 }
 
 impl Place {
@@ -99,11 +107,15 @@ impl Place {
                     object,
                     b"sandegmur_correction\0".as_ptr().cast(),
                 )),
+                preview: std::mem::transmute::<*mut c_void, Option<Preview>>(dlsym(
+                    object,
+                    b"sandegmur_preview\0".as_ptr().cast(),
+                )),
             }
         }
     }
 
-    // Safety, of all six: pointer and length of every part come from one live slice, and the parts don't overlap.
+    // Safety, of all seven: pointer and length of every part come from one live slice, and the parts don't overlap.
 
     pub fn settle(&self, archive: &[u8], p: u64, k: u64, list: &mut [u8], result: &mut [u8]) -> u32 {
         let (lent, places, parts) = (archive.as_ptr(), list.as_mut_ptr(), result.as_mut_ptr());
@@ -141,5 +153,22 @@ impl Place {
         let lists = [amounts, balanced, prices].map(|list| (list.as_ptr(), list.len()));
         let [(amounts, amount_count), (balanced, balanced_count), (prices, price_count)] = lists;
         unsafe { call(amounts, amount_count, balanced, balanced_count, prices, price_count, cents, remainder) }
+    }
+    #[allow(clippy::too_many_arguments)]
+    pub fn preview(
+        &self,
+        archive: &mut [u8],
+        owner: u64,
+        record: &[u8],
+        p: u64,
+        k: u64,
+        list: &mut [u8],
+        result: &mut [u8],
+    ) -> u32 {
+        let call = self.preview.expect("a version that previews");
+        let (lent, length) = (archive.as_mut_ptr(), archive.len());
+        let (places, parts) = (list.as_mut_ptr(), result.as_mut_ptr());
+        let (new, new_length) = (record.as_ptr(), record.len());
+        unsafe { call(lent, length, owner, new, new_length, p, k, places, list.len(), parts, result.len()) }
     }
 }
