@@ -50,7 +50,7 @@ pub record TakesBack (archive later : List ℕ) (number : ℕ) : Type 0 where
   pub answers : number ≡ numberOf (takeBack archive)
   pub leaves : later ≡ archiveAfter (takeBack archive) archive
 
--- preview, with append's owner and record and settle's places and list: the archive is lent for writing, and is as before, refused or not
+-- preview (02, 6), with append's owner and record and settle's places and list: the archive is lent for writing, and is as before in every case
 pub record Previews (archive : List ℕ) (owner : ℕ) (new : List ℕ) (p k : ℕ) (list laterList : List ℤ) (later : List ℕ) (answer : Answer) : Type 0 where
   pub answers : answer ≡ answerOf (preview archive owner new p k (length list))
   pub leaves-list : laterList ≡ listAfter (preview archive owner new p k (length list)) list

@@ -115,6 +115,6 @@ takeBackRefusals = notArchive ∷ lastNotNamedOnce ∷ []
 abbrev pub correctionRefusals : List ℕ
 correctionRefusals = unequalLists ∷ badEnergies ∷ badPrice ∷ []
 
--- append's come first
+-- append's first, then settle's (02, 6); 1, 2 and 3 are among both
 abbrev pub previewRefusals : List ℕ
 previewRefusals = appendRefusals ++ settleRefusals

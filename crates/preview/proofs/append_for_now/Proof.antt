@@ -1,9 +1,32 @@
--- `preview::append_for_now` meets its contract.
+-- `preview::append_for_now` meets its contract. What the tests have shown is stated once, at the state where the code learns it.
 use native.Mathlib.Omega.{arith}
 use borrow.Author.Needs.{needs}
+use Rattle.filing.specs.Destinations.{HasRoom}
 use Rattle.preview.proofs.Undoing.{copied, not-appended, has-room, appended-for-now}
 use Rattle.preview.proofs.append_for_now.Statement.{statement}
 use Rattle.preview.proofs.append_for_now.Tie as tie
+use Rattle.preview.proofs.append_for_now.Reads as reads
+use Rattle.preview.proofs.append_for_now.Lts as lts
+use Rattle.filing.proofs.destination_for.Reads as destination-for-reads
+use Rattle.filing.proofs.file.Reads as file-reads
+use Rattle.writing.proofs.put_bytes.Reads as put-bytes-reads
+
+abbrev claims : lts.Claims
+claims = (
+  destination-for-reads.Asked,
+  destination-for-reads.Learnt,
+  put-bytes-reads.Asked,
+  put-bytes-reads.Learnt,
+  file-reads.Asked,
+  file-reads.Learnt,
+)
+
+room : (c : lts.After-used claims reads.Pre reads.Post)
+    → let a = c .before .before .before .before .before .before .before .args in HasRoom (a .archive .now) (c .used .given .0 .0) (c .used .given .0 .1 .0) (a .new .now)
+room c =
+    let d = c .before .before .destination-for in
+    let a = c .before .before .before .before .before .before .before .args in
+    has-room (a .archive .now) (a .owner) (a .new .now) (d .result) (d .ensures) (c .used .given .1)
 
 destination-for-requires : tie.Need-destination-for-requires
 destination-for-requires c κs = search needs
@@ -15,18 +38,10 @@ enum-known-used : tie.Need-enum-known-used
 enum-known-used c = search needs
 
 mul-start : tie.Need-mul-start
-mul-start c =
-    let d = c .before .before .before .destination-for in
-    let a = c .before .before .before .before .before .before .before .before .args in
-    let r = has-room (a .archive .now) (a .owner) (a .new .now) (d .result) (d .ensures) (c .before .used .given .1) in
-    omega (arith, r .few)
+mul-start c = omega (arith, room (c .before) .few)
 
 add-end : tie.Need-add-end
-add-end c =
-    let d = c .before .before .before .destination-for in
-    let a = c .before .before .before .before .before .before .before .before .args in
-    let r = has-room (a .archive .now) (a .owner) (a .new .now) (d .result) (d .ensures) (c .before .used .given .1) in
-    omega (arith, r .few)
+add-end c = omega (arith, room (c .before) .few)
 
 sub-put-bytes : tie.Need-sub-put-bytes
 sub-put-bytes c = search needs
@@ -35,22 +50,13 @@ part-put-bytes-start : tie.Need-part-put-bytes-start
 part-put-bytes-start c = search needs
 
 part-put-bytes-end : tie.Need-part-put-bytes-end
-part-put-bytes-end c =
-    let at-used = c .before .before .before in
-    let d = at-used .before .before .destination-for in
-    let a = at-used .before .before .before .before .before .before .before .args in
-    let r = has-room (a .archive .now) (a .owner) (a .new .now) (d .result) (d .ensures) (at-used .used .given .1) in
-    omega (arith, r .free)
+part-put-bytes-end c = omega (arith, room (c .before .before .before) .free)
 
 put-bytes-requires : tie.Need-put-bytes-requires
 put-bytes-requires c κs = search needs
 
 file-requires : tie.Need-file-requires
-file-requires c κs =
-    let at-used = c .before .before .before .before .before .before .before .before in
-    let d = at-used .before .before .destination-for in
-    let a = at-used .before .before .before .before .before .before .before .args in
-    has-room (a .archive .now) (a .owner) (a .new .now) (d .result) (d .ensures) (at-used .used .given .1)
+file-requires c κs = room (c .before .before .before .before .before .before .before .before)
 
 same-length : tie.Need-same-length
 same-length c = search needs
@@ -78,10 +84,9 @@ returns-2 c =
     let entry = at-known .before in
     let a = entry .args in
     let d = at-destination-for .destination-for in
-    let e = at-used .used .given .1 in
-    let r = has-room (a .archive .now) (a .owner) (a .new .now) (d .result) (d .ensures) e in
-    appended-for-now (a .archive .now) (a .owner) (a .new .now) (d .result) (d .ensures) e (λ i. omega (arith, at-known .slice-known .given i)) (at-file .file .ensures)
-    (copied (a .archive .now) (a .old .now) _ (r .free) (entry .pre) (at-put-bytes .put-bytes .ensures))
+    appended-for-now (a .archive .now) (a .owner) (a .new .now) (d .result) (d .ensures) (at-used .used .given .1)
+    (λ i. omega (arith, at-known .slice-known .given i)) (at-file .file .ensures)
+    (copied (a .archive .now) (a .old .now) _ (room at-used .free) (entry .pre) (at-put-bytes .put-bytes .ensures))
 
 pub append-for-now-spec : {M : Type 1} → statement M
 append-for-now-spec =
