@@ -1,4 +1,5 @@
 // The archive's head, and show (document 01, 'The archive').
+#![tactic(auto)]
 ghost use Rattle.std.specs.Prelude.{◌≡◌, length};
 ghost use Rattle.rules.specs.Archive.{is_whole, is_text, used_of};
 ghost use Rattle.rules.specs.Promises.{Shows};
@@ -30,7 +31,7 @@ fn is_text(r: &[u8]) -> bool
 }
 
 // U, the count of used records, or refusal 1.
-#[derive(Drop)]
+#[derive(Clone, Copy)]
 pub enum Head {
     Used(u64),
     Refused(u64),

@@ -1,4 +1,5 @@
 // Audit (document 01, 'Calls on the archive'): the kind and the links of every record, and a table of how often each record is named.
+#![tactic(auto)]
 ghost use Rattle.std.specs.Prelude.{◌≡◌, ◌≤◌, ◌<◌, length};
 ghost use Rattle.rules.specs.Links.{link, links_at};
 ghost use Rattle.rules.specs.Promises.{Audits};

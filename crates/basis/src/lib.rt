@@ -1,4 +1,5 @@
 // The basis of a measure: how its T is found, and the links followed for that (document 01, 'Reference power T').
+#![tactic(auto)]
 ghost use Rattle.std.specs.Prelude.{◌≡◌, false};
 ghost use Rattle.rules.specs.Settle.{basis_of};
 ghost use Rattle.place.specs.Places.{meant, Lies};
@@ -16,13 +17,13 @@ use rules::{Technology, Variant, refusal};
 use terms::Terms;
 use units::{Irradiance, Watt};
 
-#[derive(Drop)]
+#[derive(Clone, Copy)]
 pub struct Basis {
     pub links: u64,
     pub reference: Reference,
 }
 
-#[derive(Drop)]
+#[derive(Clone, Copy)]
 pub enum Based {
     On(Basis),
     Refused(u64),
@@ -149,7 +150,7 @@ fn on_curve(archive: &[u8], place: Place, powers: &mut [u32]) -> Based
 }
 
 // What a basis off the curve stands on: a comparison with before-quarters, or the terms alone.
-#[derive(Drop)]
+#[derive(Clone, Copy)]
 enum Ground {
     Comparison(Purpose),
     ByTerms(Reference),

@@ -1,4 +1,5 @@
 // Exact magnitudes booked with a carry that is lent: one step, and a whole sheet into a list (01, 'Amounts').
+#![tactic(auto)]
 ghost use Rattle.std.specs.Prelude.{◌≡◌, ◌<◌, ◌≤◌, ◌^◌, ◌*◌, ◌++◌, length, drop};
 ghost use Rattle.rules.specs.Numbers.{sumℤ};
 ghost use Rattle.rules.specs.Booking.{amounts_of, signed};
@@ -11,7 +12,7 @@ use rules::Direction;
 use units::WattHour;
 
 // What one booking gives, as plain numbers.
-#[derive(Drop)]
+#[derive(Clone, Copy)]
 struct Step {
     amount: u64,
     remainder: u64,

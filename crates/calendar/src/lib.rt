@@ -1,4 +1,5 @@
 // The calendar (document 02, 1): the date of a quarter, the quarter after it, and the delivery day.
+#![tactic(auto)]
 ghost use Rattle.std.specs.Prelude.{◌≡◌, not, ◌&&◌, [], ◌∷◌, ◌+◌, ◌%◌, ◌≤◌, ◌<◌, ◌^◌, ltb, length};
 ghost use Rattle.rules.specs.Calendar.{is_leap_year, year_length, month_length, in_year, days_of_years, date_of, day_after, next_month, delivery_day};
 ghost use Rattle.calendar.specs.Clocks.{Passed, clock_after, CanAdvance, Begins};
@@ -120,7 +121,7 @@ fn day_after(date: Date) -> Date
 }
 
 // The day that a dated measure's quarter lies in, and the index along the measure of the quarter with which the next day begins.
-#[derive(Drop)]
+#[derive(Clone, Copy)]
 pub struct Clock {
     pub date: Date,
     pub until: u64,
@@ -157,7 +158,7 @@ pub fn after(clock: Clock, index: u64) -> Clock
 // ---- the delivery day
 
 // A day, 0 if the month has fewer than four working days, or the number of a refusal.
-#[derive(Drop)]
+#[derive(Clone, Copy)]
 pub enum Delivery {
     Day(DayNumber),
     Refused(u64),

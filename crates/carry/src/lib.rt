@@ -1,24 +1,25 @@
 // The carry of a measure, lent to the booking step and updated there quarter by quarter (01, 'Amounts').
+#![tactic(auto)]
 ghost use Rattle.std.specs.Prelude.{◌≡◌, ◌<◌, ◌≤◌, ◌^◌};
 ghost use Rattle.carry.specs.Carrying.{booked_of, parts_of};
 
 // What is carried on to the next quarter, less than 1 Wh: `remainder` over `denominator`. With `inverse_of` the denominator beside it few
 // magnitudes need a division; no amount depends on it.
-#[derive(Drop)]
+#[derive(Clone, Copy)]
 pub struct Carry {
     pub remainder: u64,
     pub denominator: u64,
     pub inverse: u64,
 }
 
-#[derive(Drop)]
+#[derive(Clone, Copy)]
 pub struct Booked {
     pub amount: u64,
     pub carry: Carry,
 }
 
 // A division's quotient and remainder.
-#[derive(Drop)]
+#[derive(Clone, Copy)]
 struct Parts {
     whole: u64,
     rest: u64,

@@ -1,6 +1,7 @@
 // Calls made by the outside program (reference/src/bin/cases.rs) and run here. The file `calls` has them one after another; each gives a
 // line with its refusal number, the count, total and links of a settle or preview, the delivery day or the remainder and the cents of a
 // correction, and a checksum of the later list, archive or both.
+#![tactic(auto)]
 ghost use Rattle.std.specs.Prelude.{◌+◌, ◌≤◌, ◌<◌, ◌≡◌, length};
 
 use calendar::Delivery;
@@ -64,7 +65,7 @@ fn sum_of_list(list: &[i64]) -> u64
 
 // ---- the calls
 
-#[derive(Drop)]
+#[derive(Clone, Copy)]
 struct Answer {
     number: u64,
     count: u64,
@@ -234,7 +235,7 @@ fn correction_call(first: u64, second: u64, bytes: &[u8]) -> Answer {
 // number; or how many amounts and balanced energies there are. So many bytes follow for the archive's start, whose further bytes stay as the
 // last call left them; the archive has `size` bytes; `filed` bytes of a new record, of holidays or of the lists of a correction follow; the
 // list has `places` places.
-#[derive(Drop)]
+#[derive(Clone, Copy)]
 struct Call {
     name: u64,
     first: u64,

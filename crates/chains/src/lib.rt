@@ -1,4 +1,5 @@
 // Links followed, and chains walked to a place or to their end (document 01, 'Chains').
+#![tactic(auto)]
 ghost use Rattle.std.specs.Prelude.{◌≡◌, ◌+◌, ◌*◌, ◌≤◌, ◌<◌, length};
 ghost use Rattle.rules.specs.Archive.{link_at, follow, at_place, chain};
 ghost use Rattle.chains.specs.Answers.{link_answer, reach_answer, end_answer, refusal_of};
@@ -9,7 +10,7 @@ use rules::refusal;
 // ---- links
 
 // The answer to a link: the number of the record that it leads to, the chain's end, or a refusal.
-#[derive(Drop)]
+#[derive(Clone, Copy)]
 pub enum Link {
     At(u64),
     End,
@@ -48,7 +49,7 @@ pub fn refusal_of(answer: Link, missing: u64) -> u64
 // ---- chains
 
 // The record at a place of a chain and the links followed to it, or a refusal.
-#[derive(Drop)]
+#[derive(Clone, Copy)]
 pub enum Reach {
     At(u64, u64),
     Refused(u64),
@@ -88,7 +89,7 @@ pub fn walk_to(
 }
 
 // The place of a chain's last link and the links followed, or a refusal.
-#[derive(Drop)]
+#[derive(Clone, Copy)]
 pub enum ChainEnd {
     At(u64, u64),
     Refused(u64),

@@ -1,4 +1,5 @@
 // The sums A and B over a measure's before-quarters, gathered in one walk along their chain (document 01, 'Reference power T').
+#![tactic(auto)]
 ghost use Rattle.std.specs.Prelude.{◌≡◌, List, ◌^◌, ◌<◌, length};
 ghost use Rattle.rules.specs.Numbers.{or_zero};
 ghost use Rattle.rules.specs.Archive.{link_at, field_at};
@@ -17,7 +18,7 @@ use units::Watt;
 
 // What the sums are for. Wind Spitz: the first four marked ones whose measured power is 10 % of Pn or more; Pn, and the plant's
 // curve, whose powers by speed are lent beside it. Wind and other Pauschal: the first marked one. Solar Spitz: all marked ones.
-#[derive(Drop)]
+#[derive(Clone, Copy)]
 pub enum Purpose {
     Four(Watt, Curve),
     First,
@@ -25,28 +26,28 @@ pub enum Purpose {
 }
 
 // The before-quarters used, and A and B over them. Every power in A is raised by 1,000,000,000, so that A isn't below zero.
-#[derive(Drop)]
+#[derive(Clone, Copy)]
 pub struct Sums {
     pub used: u64,
     pub a: u64,
     pub b: u64,
 }
 
-#[derive(Drop)]
+#[derive(Clone, Copy)]
 enum Added {
     To(Sums),
     OutOfRange,
 }
 
 // The before-quarters met, whether every field read so far is in range, and the sums.
-#[derive(Drop)]
+#[derive(Clone, Copy)]
 pub struct Walk {
     pub count: u64,
     fine: bool,
     pub sums: Sums,
 }
 
-#[derive(Drop)]
+#[derive(Clone, Copy)]
 pub enum Gathered {
     Of(Walk),
     Refused(u64),

@@ -1,4 +1,5 @@
 // A power curve as a table of powers by speed: its power at a speed, and the line from a point to the next (document 01, 'Curve').
+#![tactic(auto)]
 ghost use Rattle.std.specs.Prelude.{◌≡◌, ◌-◌, length};
 ghost use Rattle.curve.specs.Tables.{table_reading, Readable, PowerAt};
 ghost use Rattle.curve.specs.Lines.{Piece, point, filled};
@@ -7,7 +8,7 @@ ghost use Rattle.curve.specs.Answers.{reading_answer};
 use units::{Speed, Watt};
 
 // The speeds of the first and the last point; `powers` beside it holds the power at each speed from the one to the other.
-#[derive(Drop)]
+#[derive(Clone, Copy)]
 pub struct Curve {
     pub first: u64,
     pub last: u64,
@@ -15,7 +16,7 @@ pub struct Curve {
 
 // ---- the curve at a speed
 
-#[derive(Drop)]
+#[derive(Clone, Copy)]
 enum CurveReading {
     Below,
     On(Watt),

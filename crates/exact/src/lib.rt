@@ -1,4 +1,5 @@
 // The exact magnitude of a quarter (document 01, 'Exact magnitude'): its numerator over 4 × D.
+#![tactic(auto)]
 ghost use Rattle.std.specs.Prelude.{◌≡◌, [], ◌≤◌, length};
 ghost use Rattle.std.specs.Int.Signed.{mag};
 ghost use Rattle.rules.specs.Numbers.{or_zero};
@@ -36,7 +37,7 @@ fn magnitude(direction: Direction, d: u64, t: i64, l: Watt) -> u64
     }
 }
 
-#[derive(Drop)]
+#[derive(Clone, Copy)]
 pub enum Exact {
     Of(u64),
     OutOfRange,

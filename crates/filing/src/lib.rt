@@ -1,4 +1,5 @@
 // Fresh and append (document 01, 'Calls on the archive').
+#![tactic(auto)]
 ghost use Rattle.std.specs.Prelude.{◌≡◌, ◌+◌, ◌*◌, ◌≤◌, ◌<◌, length};
 ghost use Rattle.rules.specs.Filing.{append_after, new_allowed, offset_for};
 ghost use Rattle.rules.specs.Promises.{Freshens, Appends};
@@ -75,7 +76,7 @@ fn new_allowed(new: &[u8]) -> bool
 }
 
 // The byte of an owner's link, or 15.
-#[derive(Drop)]
+#[derive(Clone, Copy)]
 enum Offset {
     At(u64),
     Refused(u64),
@@ -103,7 +104,7 @@ fn offset_for(archive: &[u8], used: u64, owner: u64, kind: u8) -> Offset
 }
 
 // Where a new record goes: its number and the place of the link to it, or a refusal.
-#[derive(Drop)]
+#[derive(Clone, Copy)]
 pub enum Destination {
     At(u64, u64),
     Refused(u64),

@@ -2,20 +2,21 @@
 //
 // What `io::write_all` does with its bytes no contract says. So an `Output`, which tells how many bytes were handed over, is made here
 // alone: by `start`, and by `hand`, which takes nothing but the part that comes next. A `Failure` is made where a write failed.
+#![tactic(auto)]
 ghost use Rattle.std.specs.Prelude.{◌≡◌, length};
 ghost use Rattle.output.specs.Handing.{NextPart, Hands};
 
-#[derive(Drop)]
+#[derive(Clone, Copy)]
 pub struct Output {
     handed: u64,
 }
 
-#[derive(Drop)]
+#[derive(Clone, Copy)]
 pub struct Failure {
     handed: u64,
 }
 
-#[derive(Drop)]
+#[derive(Clone, Copy)]
 pub enum Handed {
     On(Output),
     Failed(Failure),

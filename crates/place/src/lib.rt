@@ -1,4 +1,5 @@
 // The place of a measure in the archive: its plant and itself (document 01, 'Calls on the archive').
+#![tactic(auto)]
 ghost use Rattle.std.specs.Prelude.{◌≡◌, ◌*◌, ◌≤◌, ◌<◌, length};
 ghost use Rattle.rules.specs.Archive.{entry_at};
 ghost use Rattle.rules.specs.Settle.{place_of};
@@ -12,7 +13,7 @@ use rules::{kind, refusal};
 use terms::{Admitted, Terms};
 
 // U, the numbers of plant and measure, what they say, and the links followed to them.
-#[derive(Drop)]
+#[derive(Clone, Copy)]
 pub struct Place {
     pub used: u64,
     pub plant: u64,
@@ -21,7 +22,7 @@ pub struct Place {
     pub links: u64,
 }
 
-#[derive(Drop)]
+#[derive(Clone, Copy)]
 pub enum Placed {
     At(Place),
     Refused(u64),

@@ -1,4 +1,5 @@
 // The power curve of a plant: its chain of points, read once into a table of powers by speed (document 01, 'Curve').
+#![tactic(auto)]
 ghost use Rattle.std.specs.Prelude.{◌≡◌, length};
 ghost use Rattle.rules.specs.Settle.{points_of};
 ghost use Rattle.place.specs.Places.{meant, Lies};
@@ -14,7 +15,7 @@ use rules::{kind, refusal};
 
 // What a walk along the points has read so far: their count, whether all are in range and whether their speeds rise, the first one's
 // speed, and the speed and power of the last one whose speed rises.
-#[derive(Drop)]
+#[derive(Clone, Copy)]
 struct PointsRead {
     count: u64,
     allowed: bool,
@@ -68,7 +69,7 @@ fn read_point(r: &[u8], read: PointsRead, powers: &mut [u32]) -> PointsRead
 }
 
 // The curve and the links followed, one to each point; or a refusal.
-#[derive(Drop)]
+#[derive(Clone, Copy)]
 pub enum CurveAnswer {
     Read(Curve, u64),
     Refused(u64),

@@ -1,4 +1,5 @@
 // Every test of a measure but that of the lent list (document 01, 'Calls on the archive'); its exact magnitudes into a sheet.
+#![tactic(auto)]
 ghost use Rattle.std.specs.Prelude.{◌≡◌, true, false};
 ghost use Rattle.rules.specs.Settle.{basis_of, settled};
 ghost use Rattle.place.specs.Places.{meant, Lies};
@@ -11,7 +12,7 @@ use quarters::Walked;
 use rules::Direction;
 
 // A measure whose tests have all passed: its exact magnitudes are the first `count` numbers of a sheet, over `denominator`.
-#[derive(Drop)]
+#[derive(Clone, Copy)]
 pub struct Measure {
     pub direction: Direction,
     pub denominator: u64,
@@ -19,7 +20,7 @@ pub struct Measure {
     pub links: u64,
 }
 
-#[derive(Drop)]
+#[derive(Clone, Copy)]
 pub enum Prepared {
     Ready(Measure),
     Refused(u64),

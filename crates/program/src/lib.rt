@@ -1,5 +1,6 @@
 // The program's run (document 01, 'Calls on the archive'): reads an archive of at most 65,536 bytes from standard input and settles all
 // measures in order.
+#![tactic(auto)]
 ghost use Rattle.std.specs.Prelude.{◌≤◌, length};
 ghost use Rattle.report.specs.Cursors.{Fits, Advances, Fills};
 ghost use Rattle.output.specs.Handing.{HandsAll};

@@ -1,5 +1,6 @@
 // One walk over a measure's quarters (documents 01, 'Calls on the archive', and 02, 1 and 3): each is tested and counted, and its exact magnitude
 // is written into a sheet.
+#![tactic(auto)]
 ghost use Rattle.std.specs.Prelude.{◌≡◌, ◌&&◌, [], ◌≤◌, leb};
 ghost use Rattle.std.specs.Int.Signed.{mag};
 ghost use Rattle.rules.specs.October.{bounding_of};
@@ -49,7 +50,7 @@ fn in_calendar(terms: Terms, count: usize) -> bool
 }
 
 // The count of quarters, or a refusal: 2, 3, 8, 9 or 18.
-#[derive(Drop)]
+#[derive(Clone, Copy)]
 pub enum Walked {
     Count(u64),
     Refused(u64),

@@ -1,4 +1,5 @@
 // The fields, the kind and the links of a record (document 01, 'The archive').
+#![tactic(auto)]
 ghost use Rattle.std.specs.Prelude.{◌≡◌, ◌+◌, ◌*◌, ◌^◌, ◌≤◌, ◌<◌, [], ◌∷◌, length};
 ghost use Rattle.std.specs.Int.Signed.{mag};
 ghost use Rattle.rules.specs.Archive.{link_at, field_at, record_at, kind_of};
@@ -33,7 +34,7 @@ pub fn watt_at(r: &[u8], at: usize) -> Watt
     units::watt_of(link_at(r, at))
 }
 
-#[derive(Drop)]
+#[derive(Clone, Copy)]
 pub enum Power {
     Of(Watt),
     OutOfRange,
@@ -98,7 +99,7 @@ pub fn is_kind(kind: u8) -> bool
 pub const MOST_LINKS: u64 = 7;
 
 // A link of a record: the byte where it starts and the kind that it leads to.
-#[derive(Drop)]
+#[derive(Clone, Copy)]
 pub enum Slot {
     Link(u64, u8),
     None,

@@ -1,4 +1,5 @@
 // The reference power T of a measure's quarters (document 01, 'Reference power T'): a numerator over one denominator D.
+#![tactic(auto)]
 ghost use Rattle.std.specs.Prelude.{◌≡◌, ◌≤◌, ◌<◌, length};
 ghost use Rattle.std.specs.Int.Signed.{mag};
 ghost use Rattle.rules.specs.Numbers.{or_zero, smaller};
@@ -19,7 +20,7 @@ use terms::Terms;
 use units::{Irradiance, Watt};
 
 // How T is found, with what the plant and the before-quarters give.
-#[derive(Drop)]
+#[derive(Clone, Copy)]
 pub enum Reference {
     // wind Spitz: A, B, Pn, and the curve, whose powers are lent beside it
     OnCurve(Watt, Watt, Watt, Curve),
@@ -75,7 +76,7 @@ fn quarter_of_day_of(terms: Terms, index: u64, r: &[u8]) -> u64
 
 // How a measure's quarters are walked: plainly; by the date, in solar Pauschal that has one (document 02, 1); with readings that bound T or
 // L, in Pauschal of wind and other plants from October 2026 on (document 02, 3).
-#[derive(Drop)]
+#[derive(Clone, Copy)]
 pub enum Manner {
     Plain,
     // Pn
@@ -109,7 +110,7 @@ pub fn manner_of(reference: Reference, terms: Terms) -> Manner
 
 // ---- the numerator of T over D
 
-#[derive(Drop)]
+#[derive(Clone, Copy)]
 pub enum Numerator {
     Of(i64),
     OutOfRange,

@@ -1,4 +1,5 @@
 // The program's output line by line (document 01, 'Calls on the archive'): where it stands, and its lines into a lent part of bytes.
+#![tactic(auto)]
 ghost use Rattle.std.specs.Prelude.{◌≡◌, List, ℕ, ◌+◌, ◌≤◌, ◌<◌, length};
 ghost use Rattle.rules.specs.Outcome.{refused};
 ghost use Rattle.rules.specs.Output.{lines_of, step_after, text_of_all};
@@ -10,7 +11,7 @@ use rules::refusal;
 
 // The measure to settle next, plant place p and measure place k of an archive of `used` records; the quarters written and all quarters
 // of the measure last settled, whose amounts are in a list beside it; whether the report ends with them; and the bytes written.
-#[derive(Drop)]
+#[derive(Clone, Copy)]
 pub struct Cursor {
     used: u64,
     pub p: u64,

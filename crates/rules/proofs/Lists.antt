@@ -33,6 +33,7 @@ module _ {A : Type 0} where
       go false e = e
 
   pub in_keep : (f : A → Bool) (l : List A) (a : A) → Memᴰ a l → f a ≡ true → Memᴰ a (keep f l)
+  in_keep f [] a x t = elim x [ ]
   in_keep f (b ∷ l) a (Memᴰ.head e) t =
       let u : f b ≡ true = ap f (sym e) ∙ t in
       rw u (Memᴰ.head e)

@@ -1,10 +1,11 @@
 // The types that the rule book (specs/) and the code of the other crates share. What they mean is said in specs/.
+#![tactic(auto)]
 
 pub mod kind;
 pub mod refusal;
 
 // Technology of a plant (byte 1).
-#[derive(Drop)]
+#[derive(Clone, Copy)]
 pub enum Technology {
     Wind,
     Solar,
@@ -12,21 +13,21 @@ pub enum Technology {
 }
 
 // Settlement variant (byte 2): Spitzabrechnung, Pauschal-Abrechnung.
-#[derive(Drop)]
+#[derive(Clone, Copy)]
 pub enum Variant {
     Spitz,
     Pauschal,
 }
 
 // Direction of the redispatch (byte 1 of a measure).
-#[derive(Drop)]
+#[derive(Clone, Copy)]
 pub enum Direction {
     Positive,
     Negative,
 }
 
 // Execution (byte 2 of a measure): Aufforderungsfall, Duldungsfall, beidseitige Fixierung.
-#[derive(Drop)]
+#[derive(Clone, Copy)]
 pub enum Execution {
     Requested,
     Tolerated,
@@ -35,7 +36,7 @@ pub enum Execution {
 
 // What a quarter's readings of October 2026 bound: nothing; the reference power T, by both or by nonavailability alone; the limitation
 // value L, by nonavailability.
-#[derive(Drop)]
+#[derive(Clone, Copy)]
 pub enum Bounding {
     Unbounded,
     ReferenceByBoth,
@@ -45,7 +46,7 @@ pub enum Bounding {
 
 // A row of the plant factors (Anlagenfaktor): summer or winter, from this quarter of the day until that one, over midnight
 // where `until` is the smaller; the factor is in ten-thousandths.
-#[derive(Drop)]
+#[derive(Clone, Copy)]
 pub struct FactorRow {
     pub summer: bool,
     pub from: u64,
@@ -54,7 +55,7 @@ pub struct FactorRow {
 }
 
 // A day of the Gregorian calendar; months and days are counted from 1.
-#[derive(Drop)]
+#[derive(Clone, Copy)]
 pub struct Date {
     pub year: u64,
     pub month: u64,
@@ -62,22 +63,22 @@ pub struct Date {
 }
 
 // A price of energy in cents per MWh (document 02, 5).
-#[derive(Drop)]
+#[derive(Clone, Copy)]
 pub struct Price(pub i64);
 
 // Money in millionths of a cent, the cost of 1 Wh at 1 cent per MWh.
-#[derive(Drop)]
+#[derive(Clone, Copy)]
 pub struct MillionthCent(pub i64);
 
 // Money in whole cents, and what is left beside them in millionths of a cent.
-#[derive(Drop)]
+#[derive(Clone, Copy)]
 pub struct Money {
     pub cents: i64,
     pub remainder: u64,
 }
 
 // What a correction gives: the number of its refusal or 0, and the money, which is zero where it is refused.
-#[derive(Drop)]
+#[derive(Clone, Copy)]
 pub struct Corrected {
     pub refusal: u64,
     pub money: Money,

@@ -1,4 +1,5 @@
 // Settle (document 01, 'Calls on the archive'): the amounts of one measure into a lent list.
+#![tactic(auto)]
 ghost use Rattle.std.specs.Prelude.{◌≡◌, ◌≤◌, min, length};
 ghost use Rattle.rules.specs.Promises.{Settles};
 ghost use Rattle.settle.specs.Answers.{answered, prepared_number};
@@ -8,7 +9,7 @@ use rules::refusal;
 use units::WattHour;
 
 // Count of quarters, total and links followed, or a refusal.
-#[derive(Drop)]
+#[derive(Clone, Copy)]
 pub enum Settled {
     Given(u64, WattHour, u64),
     Refused(u64),

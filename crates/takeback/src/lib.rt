@@ -1,4 +1,5 @@
 // Taking the last record back (document 02, 2): one pass over the links of the used records, then three writes.
+#![tactic(auto)]
 ghost use Rattle.std.specs.Prelude.{◌≡◌, ◌++◌, ◌+◌, ◌*◌, ◌≤◌, length};
 ghost use Rattle.rules.specs.Archive.{record_at};
 ghost use Rattle.rules.specs.Links.{namers};
@@ -13,7 +14,7 @@ use rules::refusal;
 // ---- the links that name a record, by their value alone
 
 // The links met that name it: none or one, by its place in the archive, 0 for none, since no link stands there; or more.
-#[derive(Drop)]
+#[derive(Clone, Copy)]
 enum Naming {
     Place(u64),
     Several,
@@ -59,7 +60,7 @@ fn naming_in(archive: &[u8], n: u64, named: u64, met: u64) -> Naming
 }
 
 // The place of the one link that names a record, or 19.
-#[derive(Drop)]
+#[derive(Clone, Copy)]
 enum Only {
     At(u64),
     Refused(u64),
@@ -90,7 +91,7 @@ fn only_link_to(archive: &[u8], used: u64, named: u64) -> Only
 // ---- taking back
 
 // U and the place of the one link to the last record, or a refusal.
-#[derive(Drop)]
+#[derive(Clone, Copy)]
 enum Last {
     Named(u64, u64),
     Refused(u64),

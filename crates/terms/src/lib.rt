@@ -1,4 +1,5 @@
 // The terms of a measure: what its plant and it say, from their own 32 bytes each, read once (documents 01, 'The archive', and 02, 1).
+#![tactic(auto)]
 ghost use Rattle.std.specs.Prelude.{◌≡◌, length};
 ghost use Rattle.rules.specs.Terms.{technology_of, variant_of, plant_allowed, direction_of, execution_of, measure_allowed};
 ghost use Rattle.rules.specs.Settle.{admitted};
@@ -9,7 +10,7 @@ use rules::{Bounding, Direction, Execution, Technology, Variant, refusal};
 use units::{QuarterNumber, Watt};
 
 // Handed on as one value; nothing of plant and measure is read again.
-#[derive(Drop)]
+#[derive(Clone, Copy)]
 pub struct Terms {
     pub nominal: Watt,
     pub technology: Technology,
@@ -119,7 +120,7 @@ fn measure_allowed(plant: &[u8], measure: &[u8]) -> bool
 
 // ---- both
 
-#[derive(Drop)]
+#[derive(Clone, Copy)]
 pub enum Admitted {
     With(Terms),
     Refused(u64),

@@ -1,5 +1,6 @@
 // The units of document 01, each a type around one number: a power is never added to an energy or compared with a wind speed.
 // A field of four bytes comes as a word, the number that it would be as a link; `twos word` is the signed number that it stands for.
+#![tactic(auto)]
 ghost use Rattle.std.specs.Prelude.{◌≡◌, true, ◌≤◌, ◌<◌, ◌^◌, ltb, pos};
 ghost use Rattle.std.proofs.Math.IntN.{sub_ℕ};
 ghost use Rattle.std.specs.Int.Signed.{le_z};
@@ -13,7 +14,7 @@ use rules::Direction;
 // ---- power
 
 // In W.
-#[derive(Drop)]
+#[derive(Clone, Copy)]
 pub struct Watt(pub i64);
 
 // A field in two's complement: (word + 2^31) mod 2^32 is its number raised by 2^31.
@@ -95,7 +96,7 @@ pub fn lowered(n: u64, by: u64) -> Watt
 // ---- speed
 
 // Wind speed in tenths of m/s.
-#[derive(Drop)]
+#[derive(Clone, Copy)]
 pub struct Speed(pub u64);
 
 pub fn is_speed(word: u64) -> bool
@@ -122,7 +123,7 @@ pub fn is_below(a: Speed, b: Speed) -> bool
 // ---- irradiance
 
 // In W/m².
-#[derive(Drop)]
+#[derive(Clone, Copy)]
 pub struct Irradiance(pub u64);
 
 pub fn is_irradiance(word: u64) -> bool
@@ -143,7 +144,7 @@ pub fn irradiance_of(word: u64) -> Irradiance
 // ---- energy
 
 // In Wh.
-#[derive(Drop)]
+#[derive(Clone, Copy)]
 pub struct WattHour(pub i64);
 
 // An amount with its sign, minus for the positive direction (01, 'Amounts').
@@ -160,9 +161,9 @@ pub fn booked(direction: Direction, amount: u64) -> WattHour
 // ---- time
 
 // Number of a day: 1 is 1 January 2000 (document 02, 1).
-#[derive(Drop)]
+#[derive(Clone, Copy)]
 pub struct DayNumber(pub u64);
 
 // Number of a quarter-hour: 1 is 1 January 2000, 0:00, in UTC+1.
-#[derive(Drop)]
+#[derive(Clone, Copy)]
 pub struct QuarterNumber(pub u64);
