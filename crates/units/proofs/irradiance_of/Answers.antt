@@ -1,0 +1,7 @@
+use native.Mathlib.Omega.{arith}
+use Rattle.units.proofs.Words.{word_natural}
+use borrow.Author.Rules.{rules}
+use Rattle.units.proofs.irradiance_of.Goals as goal
+
+pub returns : goal.returns
+returns c = word_natural 2000 c.args.word (omega arith) (omega arith) c.requires.word_value

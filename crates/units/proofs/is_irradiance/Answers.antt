@@ -1,0 +1,7 @@
+use native.Mathlib.Omega.{arith}
+use Rattle.units.proofs.Words.{word_within}
+use borrow.Author.Rules.{rules}
+use Rattle.units.proofs.is_irradiance.Goals as goal
+
+pub returns : goal.returns
+returns c = word_within 2000 c.args.word (omega arith) (omega arith)

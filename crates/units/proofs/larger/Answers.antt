@@ -1,0 +1,12 @@
+use mathlib.Core.Path.{sym, ◌∙◌}
+use Rattle.rules.specs.Numbers.{larger}
+use borrow.Author.Rules.{rules}
+use Rattle.units.proofs.larger.Goals as goal
+
+pub returns-then-is_at_most : goal.returns-then-is_at_most
+unfolding larger
+returns-then-is_at_most c = rw (sym c.is_at_most.ensures ∙ c.if-is_at_most.true)
+
+pub returns-else-is_at_most : goal.returns-else-is_at_most
+unfolding larger
+returns-else-is_at_most c = rw (sym c.is_at_most.ensures ∙ c.if-is_at_most.false)

@@ -1,0 +1,13 @@
+use mathlib.Core.Path.{◌≡◌, refl, ◌∙◌}
+use Prim.Native.Nat.{◌-◌, ◌≤◌}
+use native.Mathlib.Omega.{arith}
+use lib.ListN.{length, take, replicate, length-set}
+use Rattle.rules.specs.Encoding.{put}
+use Rattle.rules.proofs.Writes.{wrote_none, zeros_more, zeros_all}
+use Rattle.writing.proofs.clear.Given as goal
+
+abbrev pub invariant-loop-place : goal.invariant-loop-place
+invariant-loop-place l = (l.archive ≡ put l.initial.archive 0 (take l.place (replicate (length l.initial.archive) 0))) × (l.place ≤ length l.initial.archive) × (length l.archive ≡ length l.initial.archive)
+
+abbrev pub decreases-loop-place : goal.decreases-loop-place
+decreases-loop-place l = length l.initial.archive - l.place

@@ -1,0 +1,13 @@
+use mathlib.Core.Path.{◌≡◌, refl, ◌∙◌}
+use Prim.Native.Nat.{◌-◌, ◌≤◌}
+use native.Mathlib.Omega.{arith}
+use lib.ListN.{length, take, length-set}
+use Rattle.rules.specs.Encoding.{put}
+use Rattle.rules.proofs.Writes.{wrote_none, wrote_more, wrote_all}
+use Rattle.writing.proofs.put_bytes.Given as goal
+
+abbrev pub invariant-loop-i : goal.invariant-loop-i
+invariant-loop-i l = (l.archive ≡ put l.initial.archive l.at (take l.i l.bytes)) × (l.i ≤ length l.bytes) × (length l.archive ≡ length l.initial.archive) × (l.a ≡ l.at)
+
+abbrev pub decreases-loop-i : goal.decreases-loop-i
+decreases-loop-i l = length l.bytes - l.i

@@ -1,0 +1,7 @@
+use Rattle.rules.specs.Encoding.{word}
+use borrow.Author.Rules.{rules}
+use Rattle.writing.proofs.put_word.Goals as goal
+
+pub returns : goal.returns
+unfolding word
+returns c = c.put_bytes.ensures
