@@ -54,9 +54,8 @@ NoAt link.End = Unit {0}
 NoAt (link.Refused n) = Unit {0}
 
 -- the `else` of `let Link::At(n) = answer`
-pub no_at : (answer : Link) → (tag_of (declared enum) answer ≡ 1) ⊎ (tag_of (declared enum) answer ≡ 2) → NoAt answer
-no_at (link.At n) (inl e) = omega arith
-no_at (link.At n) (inr e) = omega arith
+pub no_at : (answer : Link) → ((n : ℕ) → answer ≡ link.At n → ⊥) → NoAt answer
+no_at (link.At n) w = absurd (w n refl)
 no_at link.End w = tt
 no_at (link.Refused n) w = tt
 

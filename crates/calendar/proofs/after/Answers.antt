@@ -1,0 +1,12 @@
+use native.Mathlib.Omega.{arith}
+use Rattle.calendar.proofs.Clocks.{same_day, new_day}
+use borrow.Author.Rules.{rules}
+use Rattle.calendar.proofs.after.Goals as goal
+
+pub returns-then-index-clock : goal.returns-then-index-clock
+returns-then-index-clock c = let a = c.args in same_day a.clock a.index c.if-index-clock.true
+
+pub returns : goal.returns
+returns c =
+    let a = c.args in
+    new_day a.clock a.index c.day_after.ensures c.if-index-clock.false

@@ -1,0 +1,13 @@
+use mathlib.Core.Path.{◌≡◌, refl, ◌∙◌}
+use Prim.Native.Nat.{◌-◌, ◌≤◌}
+use native.Mathlib.Omega.{arith}
+use lib.ListN.{length, drop}
+use Rattle.calendar.proofs.Days.{Marking, marking_starts, marking_goes_on, marking_ends}
+use Rattle.calendar.proofs.mark_days.Given as goal
+
+abbrev pub invariant-loop-i : goal.invariant-loop-i
+invariant-loop-i l =
+    Marking l.first.0 (drop l.i l.holidays) l.holidays l.initial.marks l.marks × (length l.marks ≡ length l.initial.marks) × (l.i ≤ length l.holidays)
+
+abbrev pub decreases-loop-i : goal.decreases-loop-i
+decreases-loop-i l = length l.holidays - l.i

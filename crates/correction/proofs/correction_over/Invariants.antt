@@ -1,0 +1,12 @@
+use Prim.Native.Nat.{◌-◌}
+use native.Mathlib.Omega.{arith}
+use borrow.Author.Tests.{not-true, not-false}
+use lib.ListN.{length}
+use Rattle.correction.proofs.Passes.{Summing, many_refused, sum_begins, sum_ends, sum_stops, read_allowed, sum_fits, sum_goes}
+use Rattle.correction.proofs.correction_over.Given as goal
+
+abbrev pub invariant-loop-i : goal.invariant-loop-i
+invariant-loop-i l = Summing l.amounts l.balanced l.prices l.exact.0 l.i
+
+abbrev pub decreases-loop-i : goal.decreases-loop-i
+decreases-loop-i l = length l.amounts - l.i
