@@ -74,7 +74,7 @@ pub fn exact_by_date(terms: Terms, index: u64, clock: Clock, pn: Watt, d: u64, r
     requires ready { Ready (Reference.ByFactor pn) d [] r.now }
     requires shows { Shows (meaning terms) index clock }
     requires value { Bounding.Unbounded ≡ bounding_of (meaning terms) }
-    ensures { result ≡ quarter_answer (meaning terms) (book.byFactor (or_zero pn.0)) (quarter_of (meaning terms) index r.now) }
+    ensures { result ≡ quarter_answer (meaning terms) (book.by_factor (or_zero pn.0)) (quarter_of (meaning terms) index r.now) }
 {
     let Power::Of(l) = limitation::limit_of(terms, r) else {
         return Exact::OutOfRange;
@@ -93,7 +93,7 @@ pub fn exact_bounded(terms: Terms, bounding: Bounding, p0: Watt, r: &[u8]) -> Ex
     requires r_len { length r.now ≡ 32 }
     requires p0_bound { mag p0.0 ≤ 1000000000 }
     requires bounding_value { bounding ≡ bounding_of (meaning terms) }
-    ensures { (q : Quarter) → ReadFrom r.now q → result ≡ quarter_answer (meaning terms) (book.lastMeasured p0.0) q }
+    ensures { (q : Quarter) → ReadFrom r.now q → result ≡ quarter_answer (meaning terms) (book.last_measured p0.0) q }
 {
     let Power::Of(l) = limitation::limit_of(terms, r) else {
         return Exact::OutOfRange;

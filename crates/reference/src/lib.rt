@@ -141,7 +141,7 @@ fn on_curve(a: Watt, b: Watt, pn: Watt, curve: Curve, powers: &[u32], r: &[u8]) 
 fn on_irradiance(a: Watt, b: Irradiance, r: &[u8]) -> Numerator
     requires bounded { Bounded (Reference.OnIrradiance a b) }
     requires r_len { length r.now ≡ 32 }
-    ensures { (q : Quarter) → q.weather ≡ field_at r.now 16 → ReferredTo (book.onIrradiance a.0 b.0) q result }
+    ensures { (q : Quarter) → q.weather ≡ field_at r.now 16 → ReferredTo (book.on_irradiance a.0 b.0) q result }
 {
     let word = record::link_at(r, 16);
     if !units::is_irradiance(word) {
@@ -155,14 +155,14 @@ fn on_irradiance(a: Watt, b: Irradiance, r: &[u8]) -> Numerator
 fn times_factor(pn: Watt, month: u64, quarter: u64) -> i64
     requires bounded { Bounded (Reference.ByFactor pn) }
     requires le_month { (1 ≤ month) × (month ≤ 12) × (quarter ≤ 95) }
-    ensures { (q : Quarter) → month ≡ q.month → quarter ≡ q.quarterOfDay → ReferredTo (book.byFactor (or_zero pn.0)) q (Numerator.Of result) }
+    ensures { (q : Quarter) → month ≡ q.month → quarter ≡ q.quarter_of_day → ReferredTo (book.by_factor (or_zero pn.0)) q (Numerator.Of result) }
 {
     pn.0 * factor::plant_factor(month, quarter) as i64
 }
 
 fn by_factor(pn: Watt, month: u64, quarter: u64) -> Numerator
     requires { Bounded (Reference.ByFactor pn) }
-    ensures { (q : Quarter) → month ≡ q.month → quarter ≡ q.quarterOfDay → ReferredTo (book.byFactor (or_zero pn.0)) q result }
+    ensures { (q : Quarter) → month ≡ q.month → quarter ≡ q.quarter_of_day → ReferredTo (book.by_factor (or_zero pn.0)) q result }
 {
     if month < 1 {
         return Numerator::OutOfRange;
@@ -179,7 +179,7 @@ fn by_factor(pn: Watt, month: u64, quarter: u64) -> Numerator
 // Other Spitz: the planned power.
 fn as_planned(r: &[u8]) -> Numerator
     requires { length r.now ≡ 32 }
-    ensures { (q : Quarter) → q.planned ≡ field_at r.now 20 → ReferredTo book.asPlanned q result }
+    ensures { (q : Quarter) → q.planned ≡ field_at r.now 20 → ReferredTo book.as_planned q result }
 {
     let Power::Of(planned) = record::power_at(r, 20) else {
         return Numerator::OutOfRange;
@@ -218,7 +218,7 @@ pub fn numerator_of(
 pub fn numerator_by_date(pn: Watt, terms: Terms, index: u64, clock: Clock, r: &[u8]) -> i64
     requires bounded { Bounded (Reference.ByFactor pn) }
     requires shows { Shows (meaning terms) index clock }
-    ensures { ReferredTo (book.byFactor (or_zero pn.0)) (quarter_of (meaning terms) index r.now) (Numerator.Of result) }
+    ensures { ReferredTo (book.by_factor (or_zero pn.0)) (quarter_of (meaning terms) index r.now) (Numerator.Of result) }
 {
     let date = clock.date;
     times_factor(pn, date.month, 96 - (clock.until - index))
@@ -230,7 +230,7 @@ pub fn numerator_by_date(pn: Watt, terms: Terms, index: u64, clock: Clock, r: &[
 pub fn lowest(bounding: Bounding, p0: Watt, r: &[u8]) -> Power
     requires r_len { length r.now ≡ 32 }
     requires p0_bound { mag p0.0 ≤ 1000000000 }
-    ensures { (q : Quarter) → q.nonavailability ≡ reading_at r.now 24 → q.marketAdjustment ≡ reading_at r.now 28
+    ensures { (q : Quarter) → q.nonavailability ≡ reading_at r.now 24 → q.market_adjustment ≡ reading_at r.now 28
         → SmallestOf (reference_bounds bounding q) p0.0 result }
 {
     match bounding {

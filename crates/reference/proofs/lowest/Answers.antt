@@ -1,0 +1,21 @@
+use mathlib.Core.Path.{◌≡◌, ◌∙◌, ap, ap₂, subst}
+use mathlib.Core.List.{List, ◌∷◌, []}
+use Rattle.rules.specs.declared.Bounding.{Bounding}
+use Rattle.rules.specs.Terms.{Reading, reading_at, Quarter}
+use Rattle.rules.specs.October.{reference_bounds}
+use Rattle.record.specs.declared.Power.TheVariants as power
+use Rattle.record.specs.Powers.{SmallestOf}
+use Rattle.record.proofs.Readings.{smallest_alone, smallest_as, smallest_power}
+use Rattle.reference.proofs.Referred.{lowest_first, lowest_both}
+use borrow.Author.Rules.{rules}
+use Rattle.reference.proofs.lowest.Goals as goal
+
+of-told : (q : Quarter) {b x : Bounding} → b ≡ x → reference_bounds b q ≡ reference_bounds x q
+of-told q told = ap (λ (y : Bounding). reference_bounds y q) told
+
+abbrev both : Reading → Reading → List Reading
+both x y = x ∷ y ∷ []
+
+-- MISSING
+pub bounded_at-requires-in-ReferenceByBoth-clause-a_bound : goal.bounded_at-requires-in-ReferenceByBoth-clause-a_bound
+bounded_at-requires-in-ReferenceByBoth-clause-a_bound c = ?
