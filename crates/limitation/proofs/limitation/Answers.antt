@@ -10,7 +10,7 @@ pub returns-in-Negative : goal.returns-in-Negative
 returns-in-Negative c = c.larger.ensures ∙ limit_negative _ _ _ _ c.in-Requested.is c.in-Negative.is
 
 pub returns-in-Tolerated : goal.returns-in-Tolerated
-returns-in-Tolerated c = let a = c.args in limit_tolerated a.direction a.execution a.decreases.0 a.limit.0 c.in-Tolerated.is
+returns-in-Tolerated c = let a = c.args in limit_tolerated a.direction a.execution a.measured.0 a.limit.0 c.in-Tolerated.is
 
 pub returns-in-Fixed : goal.returns-in-Fixed
-returns-in-Fixed c = let a = c.args in limit_fixed a.direction a.execution a.decreases.0 a.limit.0 c.in-Fixed.is
+returns-in-Fixed c = let a = c.args in limit_fixed a.direction a.execution a.measured.0 a.limit.0 c.in-Fixed.is

@@ -16,6 +16,6 @@ of-told q told = ap (λ (y : Bounding). reference_bounds y q) told
 abbrev both : Reading → Reading → List Reading
 both x y = x ∷ y ∷ []
 
--- MISSING
 pub bounded_at-requires-in-ReferenceByBoth-clause-a_bound : goal.bounded_at-requires-in-ReferenceByBoth-clause-a_bound
-bounded_at-requires-in-ReferenceByBoth-clause-a_bound c = ?
+bounded_at-requires-in-ReferenceByBoth-clause-a_bound c =
+    smallest_power (reading_at c.args.r.now 24 ∷ []) c.args.p0.0 c.requires.p0_bound (subst (SmallestOf (reading_at c.args.r.now 24 ∷ []) c.args.p0.0) c.in-Of.is c.bounded_at.ensures)

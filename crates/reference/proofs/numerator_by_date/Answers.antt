@@ -19,8 +19,9 @@ returns c =
     let index = c.args.index in
     let r = c.args.r.now in
     let q = quarter_of terms index r in
-    referred_held _ q c.times_factor.result c.times_factor.type-inv (c.times_factor.ensures q (clock_month terms index r c.requires.shows) (clock_quarter terms index r c.requires.shows))
+    referred_held _ q c.times_factor.result c.times_factor.type_inv (c.times_factor.ensures q (clock_month terms index r c.requires.shows) (clock_quarter terms index r c.requires.shows))
 
--- MISSING
 pub times_factor-requires-clause-le_month : goal.times_factor-requires-clause-le_month
-times_factor-requires-clause-le_month c = ?
+times_factor-requires-clause-le_month c =
+    let month = clock_month_near c.requires.shows in
+    (month.0, month.1, omega (arith, clock_near c.requires.shows))

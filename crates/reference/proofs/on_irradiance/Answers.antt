@@ -1,7 +1,7 @@
 use mathlib.Core.Path.{refl, sym, ap, ◌∙◌}
 use Prim.Native.Nat.{ℕ}
 use native.Mathlib.Omega.{arith}
-use borrow.Author.Tests.{not-false}
+use Rattle.std.proofs.lemmas.Bool.{not_from_true, not_from_false}
 use lib.IntN.{pos}
 use mir.Syntax.{w64}
 use mir.Facts.{to_z_pos}
@@ -17,7 +17,7 @@ use Rattle.reference.proofs.on_irradiance.Goals as goal
 
 pub returns-then-not-is_irradiance : goal.returns-then-not-is_irradiance
 unfolding field_at
-returns-then-not-is_irradiance c = λ q e. out_of_range_lem is_irradiance c.is_irradiance.ensures (ap twos c.link_at-word.ensures.0 ∙ sym e) c.if-not-is_irradiance.true
+returns-then-not-is_irradiance c = λ q e. out_of_range_lem is_irradiance c.is_irradiance.ensures (ap twos c.link_at-word.ensures.0 ∙ sym e) (not_from_false _ c.if-not-is_irradiance.true)
 
 pub returns : goal.returns
 unfolding field_at
@@ -25,6 +25,6 @@ returns c =
     let h = c.requires.bounded.a_low in
     let w = c.link_at-word.ensures.0 in
     λ q e. irradiance_referred q c.args.a c.args.b c.irradiance_of-g.result.0 _
-    (in_range is_irradiance c.is_irradiance.ensures (ap twos w ∙ sym e) c.if-not-is_irradiance.false)
+    (in_range is_irradiance c.is_irradiance.ensures (ap twos w ∙ sym e) (not_from_true _ c.if-not-is_irradiance.false))
     (c.irradiance_of-g.ensures.0 ∙ ap or_zero (ap twos w ∙ sym e))
     (times_is c.args.a.0 (pos c.irradiance_of-g.result.0) _ _ _ 96000000001 2000 (back c.args.a.0 (omega (arith, h))) (to_z_pos w64 (omega (arith, c.irradiance_of-g.ensures.1))) refl (omega (arith, h)) c.irradiance_of-g.ensures.1 (omega arith))
