@@ -1,4 +1,4 @@
-use Rattle.std.proofs.Common.{length, ◌-◌, ◌≤◌, ◌≡◌, ℕ, ◌+◌, ◌*◌, ◌<◌}
+use Rattle.std.proofs.Common.{length, ◌-◌}
 use Rattle.output.proofs.write_all.Given as goal
 
 abbrev pub decreases-loop-done : goal.decreases-loop-done
