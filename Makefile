@@ -19,6 +19,8 @@ PRINTED := target/printed
 SOURCES := crates.txt $(shell find crates -name '*.rt' -o -name '*.antt')
 version = $(shell sed -n 's/^.define SANDEGMUR_VERSION_$(1) //p' include/sandegmur.h)
 VERSION := $(call version,MAJOR).$(call version,MINOR)
+# what rt links with every program
+RUNTIME = $(addprefix $(dir $(shell rt doc))c/,libos_c.a liblibc_c.a)
 SHARED := libsandegmur.so.$(call version,MAJOR)
 CFLAGS := -std=c99 -Wall -Wextra -Wconversion -Wsign-conversion -Werror -pedantic -O2
 SEED ?= 1
@@ -34,12 +36,13 @@ run: program
 test:
 	.ci/run
 
+# rt proves every crate below, builds the program and runs it; what it built is linked anew with c/signals.c.
 program:
-	.ci/check program
-	rt staticlib program
-	$(CC) $(CFLAGS) c/main.c target/staticlib/libprogram.a -o $(PROGRAM)
+	cd crates/sandegmur && rt run < stdin > /dev/null
+	mkdir -p target
+	$(CC) $(CFLAGS) c/signals.c crates/sandegmur/out/sandegmur.o $(RUNTIME) -Wl,--wrap=__sysv_signal -o $(PROGRAM)
 
-$(PROGRAM): $(SOURCES) c/main.c
+$(PROGRAM): $(SOURCES) c/signals.c
 	$(MAKE) program
 
 lib: $(LIB)/libsandegmur.a $(LIB)/libsandegmur.so $(LIB)/sandegmur.h $(LIB)/sandegmur.pc

@@ -2,10 +2,13 @@
 // line with its refusal number, the count, total and links of a settle or preview, the delivery day or the remainder and the cents of a
 // correction, and a checksum of the later list, archive or both.
 #![tactic(auto)]
+
 ghost use Rattle.std.specs.Prelude.{◌+◌, ◌≤◌, ◌<◌, ◌≡◌, length};
 
 use calendar::Delivery;
 use settle::Settled;
+use std::fs::File;
+use std::io::{Read, Write};
 use units::QuarterNumber;
 
 // ---- checksums
@@ -304,24 +307,30 @@ fn put_line(answer: Answer, out: &mut [u8]) -> usize
     text::put_byte(out, e, b'\n')
 }
 
-fn write_line(answer: Answer) -> bool {
+fn write_line<W: Write>(writer: &mut W, answer: Answer) -> bool {
     let mut out = [0u8; 128];
     let end = put_line(answer, &mut out);
-    io::write_all(libc::STDOUT_FILENO, &out[..end])
+    writer.write_all(&out[..end]).is_ok()
 }
 
 // ---- the file
 
 // The next bytes of the file: false where there are too few, or no room for them.
-fn read_start(fd: i32, part: &mut [u8], n: usize) -> bool {
+fn read_start<R: Read>(file: &mut R, part: &mut [u8], n: usize) -> bool {
     if part.len() < n {
         return false;
     }
-    io::read_full(fd, &mut part[..n]) == n
+    file.read_exact(&mut part[..n]).is_ok()
 }
 
 // False where the call asks for more than the parts have, or its line can't be written.
-fn run_call(call: Call, archive: &mut [u8], new: &[u8], list: &mut [i64]) -> bool {
+fn run_call<W: Write>(
+    writer: &mut W,
+    call: Call,
+    archive: &mut [u8],
+    new: &[u8],
+    list: &mut [i64],
+) -> bool {
     let size = call.size;
     let filed = call.filed;
     let places = call.places;
@@ -334,45 +343,59 @@ fn run_call(call: Call, archive: &mut [u8], new: &[u8], list: &mut [i64]) -> boo
     if list.len() < places {
         return false;
     }
-    write_line(answer_to(
-        call,
-        &mut archive[..size],
-        &new[..filed],
-        &mut list[..places],
-    ))
+    write_line(
+        writer,
+        answer_to(
+            call,
+            &mut archive[..size],
+            &new[..filed],
+            &mut list[..places],
+        ),
+    )
 }
 
 // The next call: false at the file's end.
-fn run_next(fd: i32, archive: &mut [u8], new: &mut [u8], list: &mut [i64]) -> bool {
+fn run_next<R: Read, W: Write>(
+    file: &mut R,
+    writer: &mut W,
+    archive: &mut [u8],
+    new: &mut [u8],
+    list: &mut [i64],
+) -> bool {
     let mut head = [0u8; 44];
-    if !read_start(fd, &mut head, 44) {
+    if !read_start(file, &mut head, 44) {
         return false;
     }
     let call = call_of(&head);
-    if !read_start(fd, archive, call.given) {
+    if !read_start(file, archive, call.given) {
         return false;
     }
-    if !read_start(fd, new, call.filed) {
+    if !read_start(file, new, call.filed) {
         return false;
     }
-    run_call(call, archive, new, list)
+    run_call(writer, call, archive, new, list)
 }
 
-fn run(fd: i32, archive: &mut [u8], new: &mut [u8], list: &mut [i64]) {
+fn run<R: Read, W: Write>(
+    file: &mut R,
+    writer: &mut W,
+    archive: &mut [u8],
+    new: &mut [u8],
+    list: &mut [i64],
+) {
     let mut left: u64 = 65536;
-    while 0 < left && run_next(fd, archive, new, list) {
+    while 0 < left && run_next(file, writer, archive, new, list) {
         left -= 1;
     }
 }
 
-fn main() {
+fn main(rt: HostRuntime) {
     let mut archive = [0u8; 131072];
     let mut new = [0u8; 73728];
     let mut list = [0i64; 4096];
-    let fd = os::open_read(b"calls");
-    if fd < 0 {
+    let Ok(mut file) = File::open(&rt, "calls") else {
         return;
-    }
-    run(fd, &mut archive, &mut new, &mut list);
-    libc::close(fd);
+    };
+    let mut writer = rt.stdout();
+    run(&mut file, &mut writer, &mut archive, &mut new, &mut list);
 }

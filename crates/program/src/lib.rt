@@ -1,6 +1,7 @@
 // The program's run (document 01, 'Calls on the archive'): reads an archive of at most 65,536 bytes from standard input and settles all
 // measures in order.
 #![tactic(auto)]
+
 ghost use Rattle.std.specs.Prelude.{◌≤◌, length};
 ghost use Rattle.report.specs.Cursors.{Fits, Advances, Fills};
 ghost use Rattle.output.specs.Handing.{HandsAll};
@@ -9,6 +10,7 @@ ghost use Rattle.program.specs.Due.{LineDue, MeasureDue, Room, RestDue, ExitStat
 use output::{Handed, Output};
 use report::Cursor;
 use settle::Settled;
+use std::io::{Read, Write};
 
 // The measure at the cursor's places: its first line, with its amounts in the list, or its refusal.
 fn put_next_measure(archive: &[u8], cursor: Cursor, list: &mut [i64], out: &mut [u8]) -> Cursor
@@ -56,7 +58,14 @@ fn fill(archive: &[u8], cursor: Cursor, list: &mut [i64], out: &mut [u8]) -> Cur
 }
 
 // Every line that is left, part by part, until none is or a write fails.
-fn print(archive: &[u8], first: Cursor, start: Output, list: &mut [i64], out: &mut [u8]) -> Handed
+fn print<W: Write>(
+    writer: &mut W,
+    archive: &[u8],
+    first: Cursor,
+    start: Output,
+    list: &mut [i64],
+    out: &mut [u8],
+) -> Handed
     requires { RestDue archive.now first start.handed list.old out.old }
     ensures { HandsAll archive.now result }
 {
@@ -64,7 +73,7 @@ fn print(archive: &[u8], first: Cursor, start: Output, list: &mut [i64], out: &m
     let mut handed = start;
     while !report::is_finished(cursor) {
         cursor = fill(archive, cursor, list, out);
-        let answer = output::hand(archive, handed, &out[..cursor.end]);
+        let answer = output::hand(writer, archive, handed, &out[..cursor.end]);
         let Handed::On(next) = answer else {
             return answer;
         };
@@ -74,52 +83,66 @@ fn print(archive: &[u8], first: Cursor, start: Output, list: &mut [i64], out: &m
 }
 
 // The whole output of an input: its first lines, then the others.
-fn give_output(input: &[u8], list: &mut [i64], out: &mut [u8]) -> Handed
+fn give_output<W: Write>(writer: &mut W, input: &[u8], list: &mut [i64], out: &mut [u8]) -> Handed
     requires { Room list.old out.old }
     ensures { HandsAll input.now result }
 {
     let first = report::begin(input, out);
-    let answer = output::hand(input, output::start(), &out[..first.end]);
+    let answer = output::hand(writer, input, output::start(), &out[..first.end]);
     let Handed::On(begun) = answer else {
         return answer;
     };
-    print(input, first, begun, list, out)
+    print(writer, input, first, begun, list, out)
+}
+
+// Reads until the buffer is full, the input ends or a read fails, also one that a signal interrupts: how many bytes it has now.
+fn read_full<R: Read>(reader: &mut R, buffer: &mut [u8]) -> usize
+    ensures { result ≤ length buffer.old }
+{
+    let mut done = 0;
+    while done < buffer.len() {
+        let Ok(n) = reader.read(&mut buffer[done..]) else {
+            return done;
+        };
+        if n == 0 {
+            return done;
+        }
+        done += n;
+    }
+    done
 }
 
 // 0 if an input of so many bytes was read to its end or is too long, 1 if a read failed, which standard error is told.
-fn read_status(n: usize) -> u32
+fn read_status<R: Read, E: Write>(reader: &mut R, errors: &mut E, n: usize) -> u32
     ensures { ExitStatus result }
 {
     if 65536 < n {
         return 0;
     }
     let mut more = [0u8; 1];
-    if libc::read(libc::STDIN_FILENO, &mut more) == 0 {
+    if let Ok(0) = reader.read(&mut more) {
         return 0;
     }
-    io::write_all(
-        libc::STDERR_FILENO,
-        b"sandegmur: the input could not be read\n",
-    );
+    output::write_all(errors, b"sandegmur: the input could not be read\n");
     1
 }
 
 // The input up to one byte more than an archive may have, and its output. The answer is the program's exit status: 0, or 1 where a read
 // or a write failed, which standard error is told.
-#[unsafe(no_mangle)]
-pub extern "C" fn sandegmur_run() -> u32
+pub fn sandegmur_run<R: Read, W: Write, E: Write>(
+    reader: &mut R,
+    writer: &mut W,
+    errors: &mut E,
+) -> u32
     ensures { ExitStatus result }
 {
     let mut input = [0u8; 65537];
     let mut list = [0i64; 2976];
     let mut out = [0u8; 65536];
-    let n = io::read_full(libc::STDIN_FILENO, &mut input);
-    let status = read_status(n);
-    let Handed::On(_) = give_output(&input[..n], &mut list, &mut out) else {
-        io::write_all(
-            libc::STDERR_FILENO,
-            b"sandegmur: the output could not be written\n",
-        );
+    let n = read_full(reader, &mut input);
+    let status = read_status(reader, errors, n);
+    let Handed::On(_) = give_output(writer, &input[..n], &mut list, &mut out) else {
+        output::write_all(errors, b"sandegmur: the output could not be written\n");
         return 1;
     };
     status

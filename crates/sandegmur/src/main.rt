@@ -1,5 +1,15 @@
-// The program. A program of the kit has no exit status of its own; `program::sandegmur_run` gives it to one in C.
+// The program: an archive from standard input, its lines to standard output. What it does is proved in crates/program. Its exit status is 0,
+// or 1 where a read or a write failed.
 #![tactic(auto)]
-fn main() {
-    program::sandegmur_run();
+
+use std::process::ExitCode;
+
+fn main(rt: HostRuntime) -> ExitCode {
+    let mut input = rt.stdin();
+    let mut output = rt.stdout();
+    let mut errors = rt.stderr();
+    if program::sandegmur_run(&mut input, &mut output, &mut errors) == 0 {
+        return ExitCode::SUCCESS;
+    }
+    ExitCode::FAILURE
 }
