@@ -1,5 +1,6 @@
 // Audit (document 01, 'Calls on the archive'): the kind and the links of every record, and a table of how often each record is named.
 #![tactic(auto)]
+
 ghost use Rattle.std.specs.Prelude.{◌≡◌, ◌≤◌, ◌<◌, length};
 ghost use Rattle.rules.specs.Links.{link, links_at};
 ghost use Rattle.rules.specs.Promises.{Audits};

@@ -1,4 +1,2 @@
 pub mod Written
-pub mod Lies
-pub mod Steps
 pub mod Places

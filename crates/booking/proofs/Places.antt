@@ -1,11 +1,10 @@
 -- Bytes, 8 to a place: the amounts of a sheet written one after another.
 use mathlib.Core.Path.{◌≡◌, refl, sym, ◌∙◌, ap}
-use mathlib.Core.List.{List, [], ◌∷◌, ◌++◌, map, append_assoc, append-nil}
+use mathlib.Core.List.{List, ◌++◌, map, append_assoc, append-nil}
 use Prim.Native.Nat.{ℕ, zero, suc, ◌+◌, ◌*◌, ◌-◌, ◌/◌, ◌%◌, ◌^◌, ◌≤◌, ◌<◌}
 use native.Mathlib.Omega.{arith}
 use lib.ListN.{length, get_or, take, drop, length-append, length-drop, take-append-drop}
-use lib.Seq.{sets, sets-eq, drop-drop, drop-length, take_at, drop_at, length-take-le}
-use borrow.Rule.Slice.PartMut.{put_mid}
+use lib.Seq.{drop-drop, drop-length, take_at, drop_at, length-take-le}
 use Rattle.rules.specs.declared.Direction.{Direction}
 use Rattle.rules.specs.declared.Direction.TheVariants.{Positive}
 use Rattle.rules.specs.Encoding.{double_word, bits, encoded, put}

@@ -1,5 +1,6 @@
 // Exact magnitudes booked with a carry that is lent: one step, and a whole sheet into a list (01, 'Amounts').
 #![tactic(auto)]
+
 ghost use Rattle.std.specs.Prelude.{◌≡◌, ◌<◌, ◌≤◌, ◌^◌, ◌*◌, ◌++◌, length, drop};
 ghost use Rattle.rules.specs.Numbers.{sumℤ};
 ghost use Rattle.rules.specs.Booking.{amounts_of, signed};

@@ -1,5 +1,6 @@
 // Fresh and append (document 01, 'Calls on the archive').
 #![tactic(auto)]
+
 ghost use Rattle.std.specs.Prelude.{◌≡◌, ◌+◌, ◌*◌, ◌≤◌, ◌<◌, length};
 ghost use Rattle.rules.specs.Filing.{append_after, new_allowed, offset_for};
 ghost use Rattle.rules.specs.Promises.{Freshens, Appends};

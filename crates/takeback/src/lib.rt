@@ -1,5 +1,6 @@
 // Taking the last record back (document 02, 2): one pass over the links of the used records, then three writes.
 #![tactic(auto)]
+
 ghost use Rattle.std.specs.Prelude.{◌≡◌, ◌++◌, ◌+◌, ◌*◌, ◌≤◌, length};
 ghost use Rattle.rules.specs.Archive.{record_at};
 ghost use Rattle.rules.specs.Links.{namers};

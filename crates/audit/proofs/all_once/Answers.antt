@@ -1,10 +1,5 @@
-use mathlib.Core.Bool.{true}
-use mathlib.Core.Path.{◌≡◌, sym, ◌∙◌, ap}
-use Prim.Native.Nat.{◌-◌, ◌≤◌}
 use native.Mathlib.Omega.{arith}
-use Rattle.audit.specs.Marks.{marked_once}
 use Rattle.audit.proofs.Marks.{once_none, once_more, once_stop}
-use borrow.Author.Rules.{rules}
 use Rattle.audit.proofs.all_once.Goals as goal
 
 pub loop-i-init : goal.loop-i-init

@@ -1,9 +1,7 @@
 use mathlib.Core.Bool.{true}
-use mathlib.Core.Path.{◌≡◌, sym, ◌∙◌, ap}
+use mathlib.Core.Path.{◌≡◌}
 use Prim.Native.Nat.{◌-◌, ◌≤◌}
-use native.Mathlib.Omega.{arith}
 use Rattle.audit.specs.Marks.{marked_once}
-use Rattle.audit.proofs.Marks.{once_none, once_more, once_stop}
 use Rattle.audit.proofs.all_once.Given as goal
 
 abbrev pub invariant-loop-i : goal.invariant-loop-i

@@ -1,15 +1,10 @@
-use mathlib.Core.Path.{◌≡◌, sym, ◌∙◌}
-use mathlib.Core.Bool.{Bool, true, false, cond}
-use Rattle.rules.specs.Outcome.{given}
-use Rattle.rules.specs.Refusals.{not_named_once}
-use Rattle.rules.specs.Archive.{used_of}
-use Rattle.rules.specs.Promises.{Audits}
+use mathlib.Core.Path.{sym, ◌∙◌}
+use mathlib.Core.Bool.{true, false}
 use Rattle.rules.proofs.AppendSteps.{used_within}
 use Rattle.archive.proofs.Laws.{opened, unopened}
 use Rattle.audit.specs.Marks.{no_marks}
 use Rattle.audit.proofs.Marks.{no_marks_lem, marks_long, marks_enough}
 use Rattle.audit.proofs.Audits.{audit_unread, audit_refused, audit_done}
-use borrow.Author.Rules.{rules}
 use Rattle.audit.proofs.audit.Goals as goal
 
 pub returns-in-Refused : goal.returns-in-Refused
@@ -31,7 +26,7 @@ returns-then-number-ne0 c =
 pub all_once-requires : goal.all_once-requires
 all_once-requires c =
     let w = used_within _ _ (((opened _ c.read_head.result c.read_head.ensures _ c.in-Used.is).is)) in
-    (w.0, marks_enough w.2 (slice-aggregate-all-once c))
+    (w.0, marks_enough w.2 (sym (c.check_records-number.auto.marks ∙ marks_long)))
 
 pub returns-then-all_once : goal.returns-then-all_once
 unfolding no_marks

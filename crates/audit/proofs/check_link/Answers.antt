@@ -1,7 +1,6 @@
 use native.Mathlib.Omega.{arith}
 use Rattle.chains.proofs.Laws.{no_at}
 use Rattle.audit.proofs.Marks.{led, link_answered, link_marked}
-use borrow.Author.Rules.{rules}
 use Rattle.audit.proofs.check_link.Goals as goal
 
 pub returns-in_default : goal.returns-in_default

@@ -1,12 +1,7 @@
-use mathlib.Core.Path.{◌≡◌, refl, ◌∙◌}
-use Prim.Native.Nat.{◌-◌}
-use native.Mathlib.Omega.{arith}
-use lib.ListN.{length}
-use Rattle.rules.specs.Links.{links_at}
+use mathlib.Core.Path.{◌∙◌}
 use Rattle.rules.proofs.Places.{at_within, at_few}
-use Rattle.record.proofs.Slots.{Here, here, past, past_all}
-use Rattle.audit.proofs.Marks.{LinksLeft, links_all, links_none, links_stop, links_on}
-use borrow.Author.Rules.{rules}
+use Rattle.record.proofs.Slots.{here, past, past_all}
+use Rattle.audit.proofs.Marks.{links_none, links_stop, links_on}
 use Rattle.audit.proofs.check_links.Goals as goal
 
 pub check_link-refused-requires : goal.check_link-refused-requires

@@ -3,12 +3,10 @@ use mathlib.Core.Bool.{Bool}
 use mathlib.Core.List.{List}
 use mathlib.Core.Logic.{inr}
 use Prim.Native.Nat.{ℕ}
-use borrow.Author.Tests.{not-true, not-false}
 use Rattle.rules.specs.Archive.{kind_of, record_at}
 use Rattle.rules.specs.Links.{is_kind}
 use Rattle.rules.proofs.Chains.{record_part}
 use Rattle.audit.proofs.Marks.{unknown_done, record_done}
-use borrow.Author.Rules.{rules}
 use Rattle.audit.proofs.check_record.Goals as goal
 
 kind-known : (archive r : List ℕ) (n : ℕ) {kind : ℕ} {t : Bool} → r ≡ record_at archive n → kind ≡ kind_of r → t ≡ is_kind kind → is_kind (kind_of (record_at archive n)) ≡ t

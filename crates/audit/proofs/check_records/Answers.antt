@@ -1,11 +1,8 @@
-use mathlib.Core.Path.{◌≡◌, refl, ◌∙◌, subst}
-use mathlib.Core.List.{List}
-use Prim.Native.Nat.{ℕ, ◌-◌, ◌≤◌}
+use mathlib.Core.Path.{◌≡◌, ◌∙◌, subst}
+use Prim.Native.Nat.{ℕ}
 use native.Mathlib.Omega.{arith}
-use lib.ListN.{length}
 use Rattle.audit.specs.Marks.{RecordsChecked}
 use Rattle.audit.proofs.Marks.{records_more, records_stop, head_passes, head_stops}
-use borrow.Author.Rules.{rules}
 use Rattle.audit.proofs.check_records.Goals as goal
 
 pub returns-then-head-ne0 : goal.returns-then-head-ne0

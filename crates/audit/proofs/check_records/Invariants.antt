@@ -1,10 +1,8 @@
-use mathlib.Core.Path.{◌≡◌, refl, ◌∙◌, subst}
+use mathlib.Core.Path.{◌≡◌}
 use mathlib.Core.List.{List}
 use Prim.Native.Nat.{ℕ, ◌-◌, ◌≤◌}
-use native.Mathlib.Omega.{arith}
 use lib.ListN.{length}
 use Rattle.audit.specs.Marks.{RecordsChecked}
-use Rattle.audit.proofs.Marks.{records_more, records_stop, head_passes, head_stops}
 use Rattle.audit.proofs.check_records.Given as goal
 
 abbrev pub invariant-loop-n : goal.invariant-loop-n

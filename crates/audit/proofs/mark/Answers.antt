@@ -1,5 +1,4 @@
 use Rattle.audit.proofs.Marks.{mark_up, mark_stays}
-use borrow.Author.Rules.{rules}
 use Rattle.audit.proofs.mark.Goals as goal
 
 pub returns-then-m-lt2 : goal.returns-then-m-lt2

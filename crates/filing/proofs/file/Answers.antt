@@ -5,7 +5,6 @@ use Rattle.rules.specs.Encoding.{put}
 use Rattle.rules.specs.Filing.{append_after}
 use Rattle.rules.proofs.Write.{is_written}
 use Rattle.filing.proofs.Laws.{taken_over, part_of_32}
-use borrow.Author.Rules.{rules}
 use Rattle.filing.proofs.file.Goals as goal
 
 pub returns : goal.returns

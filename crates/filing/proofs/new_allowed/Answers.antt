@@ -1,14 +1,8 @@
-use mathlib.Core.Path.{◌≡◌, sym, ◌∙◌, ap}
-use Prim.Native.Nat.{◌-◌}
+use mathlib.Core.Path.{sym, ◌∙◌}
 use native.Mathlib.Omega.{arith}
-use lib.ListN.{length}
-use borrow.Author.Tests.{not-true, not-false}
-use Rattle.rules.specs.Links.{is_kind, links_of}
 use Rattle.rules.proofs.Places.{links_within, links_few}
-use Rattle.rules.proofs.Owners.{new_size, new_unknown, new_links}
-use Rattle.record.proofs.Slots.{Here, here, past, past_all}
-use Rattle.filing.proofs.Links.{NewFrom, new_none, new_linked, new_on}
-use borrow.Author.Rules.{rules}
+use Rattle.record.proofs.Slots.{here, past, past_all}
+use Rattle.filing.proofs.Links.{new_none, new_linked}
 use Rattle.filing.proofs.new_allowed.Goals as goal
 
 pub link_at-requires : goal.link_at-requires

@@ -1,13 +1,9 @@
 use mathlib.Core.Path.{sym}
-use mathlib.Core.Logic.{⊎_elim}
-use Prim.Native.Nat.{◌-◌, ◌<◌}
-use native.Mathlib.Omega.{arith}
-use Rattle.rules.specs.Links.{links_at}
 use Rattle.rules.proofs.Places.{at_few}
 use Rattle.rules.proofs.Owners.{offset_unused, offset_among}
-use Rattle.record.proofs.Slots.{Here, here, past, past_all}
-use Rattle.filing.proofs.Links.{OffsetFrom, offset_none, offset_is, offset_next, offset_other}
-use borrow.Author.Rules.{rules}
+use Rattle.record.proofs.Slots.{here, past, past_all}
+use Rattle.filing.proofs.Links.{offset_none, offset_is}
+use borrow.Author.Tests.{eq-eqb}
 use Rattle.filing.proofs.offset_for.Goals as goal
 
 pub returns-then-used-owner : goal.returns-then-used-owner
@@ -20,7 +16,7 @@ loop-i-init c =
 
 pub returns-then-to-kind : goal.returns-then-to-kind
 returns-then-to-kind c =
-    sym (offset_is c.loop-i.invariant.0 ((here _ _ c.slot_at.ensures c.in-Link.is)) c.if-at-ne4.true c.if-to-kind.true)
+    sym (offset_is c.loop-i.invariant.0 ((here _ _ c.slot_at.ensures c.in-Link.is)) c.if-at-ne4.true (eq-eqb _ _ c.if-to-kind.true))
 
 pub returns-after-loop-i : goal.returns-after-loop-i
 returns-after-loop-i c = sym (offset_none c.loop-i.invariant.0 (past_all _ (at_few _ _) c.loop-i-test.false))

@@ -1,10 +1,6 @@
 use Rattle.rules.specs.TakeBack.{taken_back}
 use Rattle.rules.proofs.Write.{is_written}
-use borrow.Author.Rules.{rules}
 use Rattle.takeback.proofs.clear_last.Goals as goal
-
--- unmatched goal slice-aggregate-put-bytes : tie.Need-slice-aggregate-put-bytes
-slice-aggregate-put-bytes c = search rules
 
 pub returns : goal.returns
 unfolding taken_back

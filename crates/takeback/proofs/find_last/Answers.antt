@@ -1,13 +1,8 @@
-use mathlib.Core.Path.{◌≡◌}
-use Prim.Native.Nat.{◌<◌}
 use native.Mathlib.Omega.{arith}
-use Rattle.rules.specs.Outcome.{given}
-use Rattle.rules.specs.Archive.{used_of}
 use Rattle.rules.proofs.AppendSteps.{used_within}
 use Rattle.rules.proofs.TakeBackSteps.{take_back_no_head, take_back_head_alone}
 use Rattle.archive.proofs.Laws.{opened, unopened}
 use Rattle.takeback.proofs.Laws.{not_once, once}
-use borrow.Author.Rules.{rules}
 use Rattle.takeback.proofs.find_last.Goals as goal
 
 pub returns-in-Refused : goal.returns-in-Refused

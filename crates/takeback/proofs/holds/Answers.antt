@@ -1,5 +1,4 @@
 use Rattle.takeback.proofs.Namings.{holds_next, holds_first, holds_second}
-use borrow.Author.Rules.{rules}
 use Rattle.takeback.proofs.holds.Goals as goal
 
 pub returns-then-a-number : goal.returns-then-a-number

@@ -1,10 +1,5 @@
-use mathlib.Core.Logic.{⊎_elim, inl, inr}
 use Prim.Native.Nat.{◌-◌}
-use native.Mathlib.Omega.{arith}
-use Rattle.rules.specs.Links.{links_at}
-use Rattle.rules.proofs.Places.{at_within, at_few}
-use Rattle.record.proofs.Slots.{Here, here, past, past_all}
-use Rattle.takeback.proofs.Namings.{Read, read_none, read_all, read_second, read_on}
+use Rattle.takeback.proofs.Namings.{Read}
 use Rattle.takeback.proofs.naming_in.Given as goal
 
 abbrev pub invariant-loop-i : goal.invariant-loop-i
