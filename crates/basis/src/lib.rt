@@ -1,5 +1,6 @@
 // The basis of a measure: how its T is found, and the links followed for that (document 01, 'Reference power T').
 #![tactic(auto)]
+
 ghost use Rattle.std.specs.Prelude.{◌≡◌, false};
 ghost use Rattle.rules.specs.Settle.{basis_of};
 ghost use Rattle.place.specs.Places.{meant, Lies};

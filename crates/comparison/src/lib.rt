@@ -1,5 +1,6 @@
 // The sums A and B over a measure's before-quarters, gathered in one walk along their chain (document 01, 'Reference power T').
 #![tactic(auto)]
+
 ghost use Rattle.std.specs.Prelude.{◌≡◌, List, ◌^◌, ◌<◌, length};
 ghost use Rattle.rules.specs.Numbers.{or_zero};
 ghost use Rattle.rules.specs.Archive.{link_at, field_at};

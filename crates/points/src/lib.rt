@@ -1,5 +1,6 @@
 // The power curve of a plant: its chain of points, read once into a table of powers by speed (document 01, 'Curve').
 #![tactic(auto)]
+
 ghost use Rattle.std.specs.Prelude.{◌≡◌, length};
 ghost use Rattle.rules.specs.Settle.{points_of};
 ghost use Rattle.place.specs.Places.{meant, Lies};
