@@ -12,4 +12,4 @@ pub returns : goal.returns
 returns c =
     let a = c.args in λ archive f.
     quarter_advances archive a.cursor a.list.now f (omega arith) _ (to_z w64 (of_z w64 (get_or a.list.now a.cursor.place (pos 0)))) (omega arith)
-    c.put_quarter-end.ensures.0 (omega arith) (to_z-of_z (sfits_of c.amount-1.given))
+    c.put_quarter-end.ensures.0 (omega arith) (to_z-of_z {w = w64} (sfits_of c.amount-1.given))
