@@ -22,10 +22,12 @@ returns-else-not-needs_curve c =
     let l = located a.archive.now a.p a.k c.find.result _ c.find.ensures c.in-At.is in
     at_whole a.archive.now a.p a.k _ c.in-At.place c.with_curve.result l.is c.with_curve.ensures
 
--- MISSING
 pub without_curve-requires-clause-lies : goal.without_curve-requires-clause-lies
-without_curve-requires-clause-lies c = ?
+without_curve-requires-clause-lies c =
+    let a = c.args in
+    lies_whole a.archive.now (located a.archive.now a.p a.k c.find.result _ c.find.ensures c.in-At.is).lies
 
--- MISSING
 pub with_curve-requires-clause-lies : goal.with_curve-requires-clause-lies
-with_curve-requires-clause-lies c = ?
+with_curve-requires-clause-lies c =
+    let a = c.args in
+    lies_whole a.archive.now (located a.archive.now a.p a.k c.find.result _ c.find.ensures c.in-At.is).lies
