@@ -1,5 +1,6 @@
 // The archive's head, and show (document 01, 'The archive').
 #![tactic(auto)]
+
 ghost use Rattle.std.specs.Prelude.{◌≡◌, length};
 ghost use Rattle.rules.specs.Archive.{is_whole, is_text, used_of};
 ghost use Rattle.rules.specs.Promises.{Shows};

@@ -1,5 +1,6 @@
 // The calendar (document 02, 1): the date of a quarter, the quarter after it, and the delivery day.
 #![tactic(auto)]
+
 ghost use Rattle.std.specs.Prelude.{◌≡◌, not, ◌&&◌, [], ◌∷◌, ◌+◌, ◌%◌, ◌≤◌, ◌<◌, ◌^◌, ltb, length};
 ghost use Rattle.rules.specs.Calendar.{is_leap_year, year_length, month_length, in_year, days_of_years, date_of, day_after, next_month, delivery_day};
 ghost use Rattle.calendar.specs.Clocks.{Passed, clock_after, CanAdvance, Begins};

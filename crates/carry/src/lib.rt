@@ -1,5 +1,6 @@
 // The carry of a measure, lent to the booking step and updated there quarter by quarter (01, 'Amounts').
 #![tactic(auto)]
+
 ghost use Rattle.std.specs.Prelude.{◌≡◌, ◌<◌, ◌≤◌, ◌^◌};
 ghost use Rattle.carry.specs.Carrying.{booked_of, parts_of};
 

@@ -1,11 +1,9 @@
 -- What each answer of the code is, and what it says, over plain variables.
 use mathlib.Core.Path.{◌≡◌, refl, sym, ◌∙◌, ap}
 use mathlib.Core.List.{List, [], ◌∷◌}
-use mathlib.Core.Logic.{◌⊎◌, inl, inr}
 use Prim.Native.Nat.{ℕ, zero, suc, ◌+◌, ◌*◌, ◌-◌, ◌<◌}
 use native.Mathlib.Omega.{arith}
 use lib.ListN.{length}
-use denote.Enum.Declared.{tag_of, declared}
 use Rattle.rules.specs.Outcome.{Outcome, refused, given, ◌>>=◌}
 use Rattle.rules.specs.Archive.{next_of, record_at, Entry, follow, at_place, chain, entry_at}
 use Rattle.rules.specs.Filing.{last_place}
@@ -17,7 +15,6 @@ use Rattle.chains.specs.declared.Link.TheVariants as link
 use Rattle.chains.specs.declared.Reach.TheVariants as reach
 use Rattle.chains.specs.declared.ChainEnd.TheVariants as chainEnd
 use Rattle.chains.specs.Answers.{link_answer, reach_answer, end_answer, refusal_of}
-use Rattle.chains.specs.contracts.Link.{enum}
 
 -- ---- the answer to a link
 

@@ -3,8 +3,7 @@
 use mathlib.Core.Path.{◌≡◌, refl, sym, ◌∙◌, ap}
 use mathlib.Core.List.{List}
 use Prim.Native.Nat.{ℕ, ◌<◌}
-use native.Mathlib.Omega.{arith}
-use Rattle.rules.specs.Outcome.{Outcome, refused, given}
+use Rattle.rules.specs.Outcome.{refused, given}
 use Rattle.rules.specs.Archive.{next_of, record_at, Entry, entry_at, follow, chain}
 use Rattle.rules.proofs.Chains.{chain_ends}
 use Rattle.rules.proofs.Folds.{gathered_from, gather_turn, gather_refused, gather_done, gathered_refused}

@@ -1,5 +1,6 @@
 // Links followed, and chains walked to a place or to their end (document 01, 'Chains').
 #![tactic(auto)]
+
 ghost use Rattle.std.specs.Prelude.{◌≡◌, ◌+◌, ◌*◌, ◌≤◌, ◌<◌, length};
 ghost use Rattle.rules.specs.Archive.{link_at, follow, at_place, chain};
 ghost use Rattle.chains.specs.Answers.{link_answer, reach_answer, end_answer, refusal_of};

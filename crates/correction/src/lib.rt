@@ -1,5 +1,6 @@
 // The financial correction (document 02, 5): the gaps between amounts and balanced energies at their prices, in cents.
 #![tactic(auto)]
+
 ghost use Rattle.std.specs.Prelude.{◌≡◌, true, cond, ◌&&◌, ◌<◌, ◌^◌, ◌+ℤ◌, length};
 ghost use Rattle.std.specs.Int.Signed.{mag};
 ghost use Rattle.rules.specs.Outcome.{refused};

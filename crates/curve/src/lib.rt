@@ -1,5 +1,6 @@
 // A power curve as a table of powers by speed: its power at a speed, and the line from a point to the next (document 01, 'Curve').
 #![tactic(auto)]
+
 ghost use Rattle.std.specs.Prelude.{◌≡◌, ◌-◌, length};
 ghost use Rattle.curve.specs.Tables.{table_reading, Readable, PowerAt};
 ghost use Rattle.curve.specs.Lines.{Piece, point, filled};

@@ -1,5 +1,6 @@
 // The plant factor (Anlagenfaktor) of solar Pauschal (001, 3.2.3.3), in ten-thousandths.
 #![tactic(auto)]
+
 ghost use Rattle.std.specs.Prelude.{◌≡◌};
 ghost use Rattle.rules.specs.Reference.{is_summer, is_for, plant_factor};
 

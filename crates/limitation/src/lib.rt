@@ -1,5 +1,6 @@
 // The limitation value L of a quarter (Wert der Leistungslimitierung, 001, 3.1).
 #![tactic(auto)]
+
 ghost use Rattle.std.specs.Prelude.{◌≡◌, ◌≤◌, length};
 ghost use Rattle.std.specs.Int.Signed.{mag};
 ghost use Rattle.rules.specs.Archive.{field_at};

@@ -1,5 +1,6 @@
 // The fields, the kind and the links of a record (document 01, 'The archive').
 #![tactic(auto)]
+
 ghost use Rattle.std.specs.Prelude.{◌≡◌, ◌+◌, ◌*◌, ◌^◌, ◌≤◌, ◌<◌, [], ◌∷◌, length};
 ghost use Rattle.std.specs.Int.Signed.{mag};
 ghost use Rattle.rules.specs.Archive.{link_at, field_at, record_at, kind_of};

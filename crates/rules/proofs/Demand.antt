@@ -11,7 +11,6 @@ use Rattle.rules.specs.Outcome.{given, ◌>>=◌}
 use Rattle.rules.specs.Refusals.{settle_refusals}
 use Rattle.rules.specs.Numbers.{sumℤ}
 use Rattle.rules.specs.Terms.{Direction}
-use Rattle.rules.specs.Reference.{denominator}
 use Rattle.rules.specs.Booking.{signed, amounts_of}
 use Rattle.rules.specs.Settle.{measure_denominator, exacts_of, Settlement, count_of, settle, answer_of}
 use Rattle.rules.specs.Fractions.{exact_fractions, fractions_of, stretch, Exact}

@@ -1,6 +1,6 @@
 -- Audit (01, 'Calls on the archive' and 'Refused sheets'): 1; the head's link; each record by number, kind, then links in byte order; then 17.
 use Rattle.std.specs.Prelude.{ℕ, zero, suc, ◌≡◌, Bool, true, cond, ◌&&◌, ◌||◌, List, [], ◌∷◌, eqb, length}
-use Rattle.rules.specs.Outcome.{Outcome, refused, given, ◌>>=◌, ◌>>◌, require}
+use Rattle.rules.specs.Outcome.{Outcome, given, ◌>>=◌, ◌>>◌, require}
 use Rattle.rules.specs.Refusals.{wrong_kind, not_named_once}
 use Rattle.rules.specs.Archive.{link_at, kind_of, record_at, used_of, follow}
 use Rattle.rules.specs.Links.{Link, is_kind, links_at, stands_at, namers}

@@ -1,5 +1,5 @@
 -- Fresh, append and show (01, 'Calls on the archive').
-use Rattle.std.specs.Prelude.{ℕ, suc, ◌+◌, ◌*◌, ◌-◌, ◌/◌, Bool, cond, ◌&&◌, List, [], ◌∷◌, ◌++◌, eqb, ltb, length, replicate}
+use Rattle.std.specs.Prelude.{ℕ, ◌+◌, ◌*◌, ◌-◌, ◌/◌, Bool, cond, ◌&&◌, List, [], ◌∷◌, eqb, ltb, length, replicate}
 use Rattle.rules.specs.Outcome.{Outcome, refused, given, ◌>>=◌, ◌>>◌, require, after}
 use Rattle.rules.specs.Refusals.{not_archive, bad_record, bad_owner, archive_full}
 use Rattle.rules.specs.Numbers.{all}

@@ -1,5 +1,5 @@
 -- The entry for the operator's host, in C (01, 'Calls on the archive'): settle over bytes.
-use Rattle.std.specs.Prelude.{ℕ, ◌*◌, ◌/◌, ◌&&◌, List, [], ◌∷◌, ◌++◌, eqb, leb, ℤ, pos, length, drop}
+use Rattle.std.specs.Prelude.{ℕ, ◌*◌, ◌/◌, ◌&&◌, List, [], ◌∷◌, ◌++◌, eqb, leb, pos, drop}
 use Rattle.rules.specs.Outcome.{Outcome, given, ◌>>=◌, ◌>>◌, require, after}
 use Rattle.rules.specs.Refusals.{no_room}
 use Rattle.rules.specs.Settle.{Settlement, count_of, total_of, settled}

@@ -1,12 +1,12 @@
 -- What demand 2 says of filing: records filed one by one into a fresh archive are read again along their chains in that order, each as
 -- filed but for its links.
-use Rattle.std.specs.Prelude.{ℕ, suc, ◌+◌, ◌*◌, ◌/◌, ◌<◌, ◌≡◌, Bool, true, false, cond, ◌&&◌, eqb, length, get_or}
+use Rattle.std.specs.Prelude.{ℕ, ◌+◌, ◌*◌, ◌<◌, ◌≡◌, false, cond, ◌&&◌, eqb, length, get_or}
 use mathlib.Core.List.{List, [], ◌∷◌, map, Memᴰ}
-use Rattle.rules.specs.Outcome.{Outcome, refused, given, ◌>>=◌, ◌>>◌, require}
+use Rattle.rules.specs.Outcome.{Outcome, given, ◌>>=◌, ◌>>◌}
 use Rattle.rules.specs.Archive.{byte_at, link_at, kind_of, record_at, used_of, Entry, chain}
 use Rattle.rules.specs.Encoding.{put}
 use Rattle.rules.specs.Links.{Link, links_of, is_link_byte}
-use Rattle.rules.specs.Filing.{fresh, new_allowed, offset_for, append}
+use Rattle.rules.specs.Filing.{offset_for, append}
 use Rattle.rules.specs.Audit.{Sound}
 
 -- a record to file, and its owner's number

@@ -1,5 +1,6 @@
 // The terms of a measure: what its plant and it say, from their own 32 bytes each, read once (documents 01, 'The archive', and 02, 1).
 #![tactic(auto)]
+
 ghost use Rattle.std.specs.Prelude.{◌≡◌, length};
 ghost use Rattle.rules.specs.Terms.{technology_of, variant_of, plant_allowed, direction_of, execution_of, measure_allowed};
 ghost use Rattle.rules.specs.Settle.{admitted};

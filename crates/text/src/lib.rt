@@ -1,5 +1,6 @@
 // Numbers in decimal digits, as bytes; the words of the program's lines (document 01, 'Calls on the archive').
 #![tactic(auto)]
+
 ghost use Rattle.std.specs.Prelude.{◌≡◌, ◌∷◌, [], ◌+◌, ◌≤◌, ◌<◌, nat_abs, length};
 ghost use Rattle.rules.specs.Encoding.{put};
 ghost use Rattle.rules.specs.Output.{decimal, signed_decimal, text_of, measure_line, quarter_line, refusal_line};

@@ -1,6 +1,7 @@
 // The units of document 01, each a type around one number: a power is never added to an energy or compared with a wind speed.
 // A field of four bytes comes as a word, the number that it would be as a link; `twos word` is the signed number that it stands for.
 #![tactic(auto)]
+
 ghost use Rattle.std.specs.Prelude.{◌≡◌, true, ◌≤◌, ◌<◌, ◌^◌, ltb, pos};
 ghost use Rattle.std.proofs.Math.IntN.{sub_ℕ};
 ghost use Rattle.std.specs.Int.Signed.{le_z};

@@ -1,5 +1,6 @@
 // Bytes written in place: numbers of four and of eight bytes, little-endian.
 #![tactic(auto)]
+
 ghost use Rattle.std.specs.Prelude.{◌≡◌, ◌+◌, ◌*◌, ◌≤◌, ◌<◌, ◌^◌, length, replicate};
 ghost use Rattle.rules.specs.Encoding.{word, double_word, put};
 

@@ -2,7 +2,6 @@ use mathlib.Core.Path.{◌∙◌, ap}
 use Prim.Native.Nat.{ℕ}
 use lib.Dec.{eqb}
 use Rattle.archive.proofs.Text.{text_is}
-use borrow.Author.Rules.{rules}
 use Rattle.archive.proofs.is_text.Goals as goal
 
 pub returns : goal.returns

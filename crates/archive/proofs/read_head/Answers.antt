@@ -1,12 +1,8 @@
-use mathlib.Core.Logic.{⊎_elim}
 use mathlib.Core.Path.{sym, ◌∙◌}
 use native.Mathlib.Omega.{arith}
-use lib.ListN.{length}
-use borrow.Author.Tests.{not-true, not-false, ltb-true, ltb-false}
+use borrow.Author.Tests.{ltb-false}
 use Rattle.rules.specs.Archive.{record_at}
-use Rattle.rules.proofs.Sound.{whole_length}
 use Rattle.archive.proofs.Laws.{head_size, head_text, head_none, head_over, head_used}
-use borrow.Author.Rules.{rules}
 use Rattle.archive.proofs.read_head.Goals as goal
 use Rattle.archive.proofs.read_head.Goals.{then-used-lt1-via-then-used-lt1, then-used-lt1-via-else-used-lt1+then-archive-used}
 
@@ -27,9 +23,9 @@ returns-then-used-lt1 c =
     let size = sym c.is_whole.ensures ∙ c.if-not-is_whole.false in
     let text = sym c.is_text.ensures ∙ c.if-not-is_text.false in
     elim c.then-used-lt1.branch [
-      then-used-lt1-via-then-used-lt1 w ↦ head_none a size text c.link_of-used.result c.link_of-used.ensures.0 (omega arith)
-    | then-used-lt1-via-else-used-lt1+then-archive-used w ↦
-        head_over a size text c.link_of-used.result c.link_of-used.ensures.0 (omega arith) (omega arith)
+      | then-used-lt1-via-then-used-lt1 w ↦ head_none a size text c.link_of-used.result c.link_of-used.ensures.0 (omega arith)
+      | then-used-lt1-via-else-used-lt1+then-archive-used w ↦
+          head_over a size text c.link_of-used.result c.link_of-used.ensures.0 (omega arith) (omega arith)
     ]
 
 pub returns : goal.returns

@@ -1,7 +1,6 @@
 use mathlib.Core.Path.{refl}
 use native.Mathlib.Omega.{arith}
 use Rattle.archive.proofs.Laws.{opened, unopened, shows_part, shows_past, shows_refused}
-use borrow.Author.Rules.{rules}
 use Rattle.archive.proofs.show.Goals as goal
 
 pub returns-in_default : goal.returns-in_default

@@ -1,6 +1,4 @@
-use native.Mathlib.Omega.{arith}
 use Rattle.calendar.proofs.Clocks.{same_day, new_day}
-use borrow.Author.Rules.{rules}
 use Rattle.calendar.proofs.after.Goals as goal
 
 pub returns-then-index-clock : goal.returns-then-index-clock

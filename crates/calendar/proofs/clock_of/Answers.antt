@@ -1,6 +1,5 @@
 use native.Mathlib.Omega.{arith}
 use Rattle.calendar.proofs.Clocks.{begins}
-use borrow.Author.Rules.{rules}
 use Rattle.calendar.proofs.clock_of.Goals as goal
 
 pub returns : goal.returns

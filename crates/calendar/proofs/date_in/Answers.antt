@@ -1,7 +1,5 @@
 use native.Mathlib.Omega.{arith}
-use Prim.Native.Nat.{◌-◌}
-use Rattle.calendar.proofs.Dates.{Leafing, january, month_early, month_turns, month_found}
-use borrow.Author.Rules.{rules}
+use Rattle.calendar.proofs.Dates.{january, month_early, month_turns}
 use Rattle.calendar.proofs.date_in.Goals as goal
 
 pub loop-length-init : goal.loop-length-init

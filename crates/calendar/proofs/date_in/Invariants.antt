@@ -1,6 +1,5 @@
-use native.Mathlib.Omega.{arith}
 use Prim.Native.Nat.{◌-◌}
-use Rattle.calendar.proofs.Dates.{Leafing, january, month_early, month_turns, month_found}
+use Rattle.calendar.proofs.Dates.{Leafing}
 use Rattle.calendar.proofs.date_in.Given as goal
 
 abbrev pub invariant-loop-length : goal.invariant-loop-length

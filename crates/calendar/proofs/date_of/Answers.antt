@@ -1,7 +1,6 @@
 use mathlib.Core.Path.{◌∙◌}
 use native.Mathlib.Omega.{arith}
-use Rattle.calendar.proofs.Dates.{years_few, day_of_year, date_is}
-use borrow.Author.Rules.{rules}
+use Rattle.calendar.proofs.Dates.{years_few, date_is}
 use Rattle.calendar.proofs.date_of.Goals as goal
 
 pub overflow_add-years : goal.overflow_add-years

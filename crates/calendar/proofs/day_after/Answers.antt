@@ -2,7 +2,6 @@ use mathlib.Core.Path.{sym}
 use native.Mathlib.Omega.{arith}
 use Rattle.rules.proofs.Calendar.{after_in_month}
 use Rattle.calendar.proofs.Dates.{after_in_year, after_in_december}
-use borrow.Author.Rules.{rules}
 use Rattle.calendar.proofs.day_after.Goals as goal
 
 pub returns-then-day-month_length : goal.returns-then-day-month_length

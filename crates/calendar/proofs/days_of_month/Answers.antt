@@ -1,5 +1,4 @@
-use Rattle.calendar.proofs.Days.{date_found, length_found}
-use borrow.Author.Rules.{rules}
+use Rattle.calendar.proofs.Days.{date_found}
 use Rattle.calendar.proofs.days_of_month.Goals as goal
 
 pub month_length-requires : goal.month_length-requires

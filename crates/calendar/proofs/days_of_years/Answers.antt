@@ -1,5 +1,4 @@
 use Rattle.calendar.proofs.Dates.{days_by_division}
-use borrow.Author.Rules.{rules}
 use Rattle.calendar.proofs.days_of_years.Goals as goal
 
 pub returns : goal.returns

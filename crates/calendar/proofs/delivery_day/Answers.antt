@@ -1,6 +1,5 @@
 use native.Mathlib.Omega.{arith}
 use Rattle.calendar.proofs.Days.{too_early, too_late, first_near, month_few_days, delivered}
-use borrow.Author.Rules.{rules}
 use Rattle.calendar.proofs.delivery_day.Goals as goal
 
 pub returns-then-number-lt1 : goal.returns-then-number-lt1

@@ -1,8 +1,5 @@
-use mathlib.Core.Logic.{⊎_elim}
-use Prim.Native.Nat.{◌-◌}
 use native.Mathlib.Omega.{arith}
-use Rattle.calendar.proofs.Days.{Counting, counting_starts, counting_ends, counting_finds, counting_takes, counting_passes}
-use borrow.Author.Rules.{rules}
+use Rattle.calendar.proofs.Days.{counting_ends, counting_finds, counting_takes, counting_passes}
 use Rattle.calendar.proofs.fourth_working_day.Goals as goal
 use Rattle.calendar.proofs.fourth_working_day.Goals.{then-is_working+else-others-eq0, else-is_working}
 
@@ -15,10 +12,10 @@ pub loop-passed-preserved : goal.loop-passed-preserved
 loop-passed-preserved c =
     let a = c.args in
     elim c.if-is_working.branch [
-      then-is_working+else-others-eq0 w ↦
-        counting_takes a.first.0 a.marks.now a.days c.requires.0 c.loop-passed.invariant (omega arith) c.is_working.result c.is_working.ensures c.if-is_working.others c.weekday_after-weekday.result c.weekday_after-weekday.ensures w.if-is_working.true w.if-others-eq0.false w.others-is
-    | else-is_working w ↦
-        counting_passes a.first.0 a.marks.now a.days c.requires.0 c.loop-passed.invariant (omega arith) c.is_working.result c.is_working.ensures c.if-is_working.others c.weekday_after-weekday.result c.weekday_after-weekday.ensures w.if-is_working.false w.others-is
+      | then-is_working+else-others-eq0 w ↦
+          counting_takes a.first.0 a.marks.now a.days c.requires.0 c.loop-passed.invariant (omega arith) c.is_working.result c.is_working.ensures c.if-is_working.others c.weekday_after-weekday.result c.weekday_after-weekday.ensures w.if-is_working.true w.if-others-eq0.false w.others-is
+      | else-is_working w ↦
+          counting_passes a.first.0 a.marks.now a.days c.requires.0 c.loop-passed.invariant (omega arith) c.is_working.result c.is_working.ensures c.if-is_working.others c.weekday_after-weekday.result c.weekday_after-weekday.ensures w.if-is_working.false w.others-is
     ]
 
 pub returns : goal.returns

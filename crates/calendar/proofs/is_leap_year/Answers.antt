@@ -1,5 +1,4 @@
 use Rattle.calendar.proofs.Dates.{not_fourth, not_hundredth, hundredth}
-use borrow.Author.Rules.{rules}
 use Rattle.calendar.proofs.is_leap_year.Goals as goal
 
 pub returns-then-year-ne0 : goal.returns-then-year-ne0

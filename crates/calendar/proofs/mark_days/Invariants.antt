@@ -1,8 +1,7 @@
-use mathlib.Core.Path.{◌≡◌, refl, ◌∙◌}
+use mathlib.Core.Path.{◌≡◌}
 use Prim.Native.Nat.{◌-◌, ◌≤◌}
-use native.Mathlib.Omega.{arith}
 use lib.ListN.{length, drop}
-use Rattle.calendar.proofs.Days.{Marking, marking_starts, marking_goes_on, marking_ends}
+use Rattle.calendar.proofs.Days.{Marking}
 use Rattle.calendar.proofs.mark_days.Given as goal
 
 abbrev pub invariant-loop-i : goal.invariant-loop-i

@@ -1,7 +1,6 @@
 use mathlib.Core.Path.{◌∙◌, sym}
 use mathlib.Core.Bool.{true, false}
 use Rattle.calendar.proofs.Dates.{february, thirty, thirty_one}
-use borrow.Author.Rules.{rules}
 use Rattle.calendar.proofs.month_length.Goals as goal
 
 pub returns-then-is_leap_year : goal.returns-then-is_leap_year

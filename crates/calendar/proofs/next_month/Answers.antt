@@ -1,7 +1,5 @@
-use Prim.Native.Nat.{◌≤◌}
 use native.Mathlib.Omega.{arith}
 use Rattle.calendar.proofs.Days.{date_found, days_found, next_found}
-use borrow.Author.Rules.{rules}
 use Rattle.calendar.proofs.next_month.Goals as goal
 
 pub month_length-length-requires : goal.month_length-length-requires

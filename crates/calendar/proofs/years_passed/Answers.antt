@@ -1,7 +1,6 @@
 use mathlib.Core.Path.{refl}
 use native.Mathlib.Omega.{arith}
-use Rattle.calendar.proofs.Dates.{guessed, guess_some, year_before, year_after, year_guessed}
-use borrow.Author.Rules.{rules}
+use Rattle.calendar.proofs.Dates.{guessed, year_before, year_after, year_guessed}
 use Rattle.calendar.proofs.years_passed.Goals as goal
 
 pub returns-then-days-days_of_years : goal.returns-then-days-days_of_years

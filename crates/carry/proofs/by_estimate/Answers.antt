@@ -1,5 +1,4 @@
-use Rattle.carry.proofs.Carrying.{product_fits, parts_shown}
-use borrow.Author.Rules.{rules}
+use Rattle.carry.proofs.Carrying.{parts_shown}
 use Rattle.carry.proofs.by_estimate.Goals as goal
 
 pub returns-then-rest-d : goal.returns-then-rest-d

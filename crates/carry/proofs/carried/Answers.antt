@@ -1,5 +1,4 @@
-use Rattle.carry.proofs.Carrying.{booked_same, booked_more, rest_fits, more_fits}
-use borrow.Author.Rules.{rules}
+use Rattle.carry.proofs.Carrying.{booked_same}
 use Rattle.carry.proofs.carried.Goals as goal
 
 pub returns-then-rest-d : goal.returns-then-rest-d

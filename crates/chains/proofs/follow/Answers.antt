@@ -1,14 +1,11 @@
-use mathlib.Core.Logic.{⊎_elim}
 use mathlib.Core.List.{List}
 use mathlib.Core.Path.{sym, ◌∙◌, ap}
 use Prim.Native.Nat.{ℕ}
 use native.Mathlib.Omega.{arith}
-use borrow.Author.Tests.{eq-eqb, ne_eqb, leb-true, leb-false}
+use borrow.Author.Tests.{eq-eqb, ne_eqb}
 use Rattle.rules.specs.Archive.{kind_of}
-use Rattle.rules.proofs.Parts.{end_within, start_end, part_size}
 use Rattle.rules.proofs.Chains.{follow_low, follow_high, follow_other, follow_met, record_part}
-use Rattle.chains.proofs.Laws.{answer_end, answer_refused, answer_given}
-use borrow.Author.Rules.{rules}
+use Rattle.chains.proofs.Laws.{answer_refused, answer_given}
 use Rattle.chains.proofs.follow.Goals as goal
 use Rattle.chains.proofs.follow.Goals.{then-link-holder-via-then-link-holder, then-link-holder-via-else-link-holder+then-used-link}
 
@@ -16,10 +13,10 @@ pub returns-then-link-holder : goal.returns-then-link-holder
 returns-then-link-holder c =
     let a = c.args in
     elim c.then-link-holder.branch [
-      then-link-holder-via-then-link-holder w ↦
-        answer_refused a.link _ _ c.if-link-eq0.false (follow_low a.archive.now a.used a.kind a.holder a.link (omega arith))
-    | then-link-holder-via-else-link-holder+then-used-link w ↦
-        answer_refused a.link _ _ c.if-link-eq0.false (follow_high a.archive.now a.used a.kind a.holder a.link (omega arith) (omega arith))
+      | then-link-holder-via-then-link-holder w ↦
+          answer_refused a.link _ _ c.if-link-eq0.false (follow_low a.archive.now a.used a.kind a.holder a.link (omega arith))
+      | then-link-holder-via-else-link-holder+then-used-link w ↦
+          answer_refused a.link _ _ c.if-link-eq0.false (follow_high a.archive.now a.used a.kind a.holder a.link (omega arith) (omega arith))
     ]
 
 pub returns-then-kind_of-kind : goal.returns-then-kind_of-kind

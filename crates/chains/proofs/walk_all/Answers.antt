@@ -1,11 +1,10 @@
-use mathlib.Core.Path.{◌≡◌, refl, sym, ◌∙◌, ap}
-use Prim.Native.Nat.{◌+◌, ◌*◌, ◌-◌, ◌≤◌}
+use mathlib.Core.Path.{refl, sym, ◌∙◌, ap}
+use Prim.Native.Nat.{◌+◌, ◌*◌}
 use native.Mathlib.Omega.{arith}
-use Rattle.rules.specs.Archive.{link_at, chain}
+use Rattle.rules.specs.Archive.{chain}
 use Rattle.rules.proofs.Bytes.{link_of}
-use Rattle.chains.proofs.Laws.{no_at, Met, met, link_nearer, stand, onward, end_reached, end_refused}
-use Rattle.chains.proofs.Walking.{Walking, walk_starts, walk_turns, walk_ends, walk_refused}
-use borrow.Author.Rules.{rules}
+use Rattle.chains.proofs.Laws.{no_at, met, link_nearer, onward, end_reached, end_refused}
+use Rattle.chains.proofs.Walking.{walk_turns, walk_ends, walk_refused}
 use Rattle.chains.proofs.walk_all.Goals as goal
 
 pub returns-in_default : goal.returns-in_default

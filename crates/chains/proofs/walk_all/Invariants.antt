@@ -1,10 +1,6 @@
-use mathlib.Core.Path.{◌≡◌, refl, sym, ◌∙◌, ap}
 use Prim.Native.Nat.{◌+◌, ◌*◌, ◌-◌, ◌≤◌}
-use native.Mathlib.Omega.{arith}
-use Rattle.rules.specs.Archive.{link_at, chain}
-use Rattle.rules.proofs.Bytes.{link_of}
-use Rattle.chains.proofs.Laws.{no_at, Met, met, link_nearer, stand, onward, end_reached, end_refused}
-use Rattle.chains.proofs.Walking.{Walking, walk_starts, walk_turns, walk_ends, walk_refused}
+use Rattle.chains.proofs.Laws.{stand, onward}
+use Rattle.chains.proofs.Walking.{Walking}
 use Rattle.chains.proofs.walk_all.Given as goal
 
 abbrev pub invariant-loop-link : goal.invariant-loop-link

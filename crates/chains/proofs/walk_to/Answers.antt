@@ -1,9 +1,7 @@
-use mathlib.Core.Path.{◌≡◌, refl, ◌∙◌}
-use Prim.Native.Nat.{suc, ◌-◌, ◌≤◌}
+use mathlib.Core.Path.{◌∙◌}
+use Prim.Native.Nat.{◌-◌}
 use native.Mathlib.Omega.{arith}
-use Rattle.rules.specs.Archive.{at_place}
-use Rattle.chains.proofs.Laws.{no_at, Met, met, place_zero, place_starts, place_turn, place_met, place_none, reach_refused, reach_given}
-use borrow.Author.Rules.{rules}
+use Rattle.chains.proofs.Laws.{no_at, met, place_turn, place_none, reach_refused}
 use Rattle.chains.proofs.walk_to.Goals as goal
 
 pub returns-in_default : goal.returns-in_default

@@ -1,8 +1,6 @@
-use mathlib.Core.Path.{◌≡◌, refl, ◌∙◌}
+use mathlib.Core.Path.{◌≡◌}
 use Prim.Native.Nat.{suc, ◌-◌, ◌≤◌}
-use native.Mathlib.Omega.{arith}
 use Rattle.rules.specs.Archive.{at_place}
-use Rattle.chains.proofs.Laws.{no_at, Met, met, place_zero, place_starts, place_turn, place_met, place_none, reach_refused, reach_given}
 use Rattle.chains.proofs.walk_to.Given as goal
 
 abbrev pub invariant-loop-n : goal.invariant-loop-n

@@ -1,11 +1,8 @@
-use mathlib.Core.Path.{◌≡◌, refl}
+use mathlib.Core.Path.{◌≡◌}
 use Prim.Native.Nat.{◌≤◌, ◌-◌}
-use native.Mathlib.Omega.{arith}
-use borrow.Author.Tests.{not-true, not-false}
 use lib.ListN.{length, drop}
 use Rattle.rules.specs.Numbers.{all}
 use Rattle.rules.specs.Correction.{is_energy}
-use Rattle.correction.proofs.Passes.{no_energy, one_energy, all_passed}
 use Rattle.correction.proofs.all_energies.Given as goal
 
 abbrev pub invariant-loop-place : goal.invariant-loop-place

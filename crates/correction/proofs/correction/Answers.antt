@@ -1,7 +1,6 @@
 use mathlib.Core.Logic.{⊎_elim}
-use borrow.Author.Tests.{eqb-true, eq-eqb, ne_eqb, not-true, not-false}
+use borrow.Author.Tests.{eq-eqb, ne_eqb}
 use Rattle.correction.proofs.Passes.{balanced_differ, prices_differ, as_long}
-use borrow.Author.Rules.{rules}
 use Rattle.correction.proofs.correction.Goals as goal
 
 pub returns-then-balanced-amounts : goal.returns-then-balanced-amounts

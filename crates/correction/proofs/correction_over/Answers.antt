@@ -1,9 +1,5 @@
-use Prim.Native.Nat.{◌-◌}
 use native.Mathlib.Omega.{arith}
-use borrow.Author.Tests.{not-true, not-false}
-use lib.ListN.{length}
-use Rattle.correction.proofs.Passes.{Summing, many_refused, sum_begins, sum_ends, sum_stops, read_allowed, sum_fits, sum_goes}
-use borrow.Author.Rules.{rules}
+use Rattle.correction.proofs.Passes.{many_refused, sum_begins, sum_ends, sum_stops, sum_fits, sum_goes}
 use Rattle.correction.proofs.correction_over.Goals as goal
 
 pub returns-then-amounts-gt2976 : goal.returns-then-amounts-gt2976

@@ -1,8 +1,6 @@
 use Prim.Native.Nat.{◌-◌}
-use native.Mathlib.Omega.{arith}
-use borrow.Author.Tests.{not-true, not-false}
 use lib.ListN.{length}
-use Rattle.correction.proofs.Passes.{Summing, many_refused, sum_begins, sum_ends, sum_stops, read_allowed, sum_fits, sum_goes}
+use Rattle.correction.proofs.Passes.{Summing}
 use Rattle.correction.proofs.correction_over.Given as goal
 
 abbrev pub invariant-loop-i : goal.invariant-loop-i

@@ -1,5 +1,4 @@
-use Rattle.correction.proofs.Costs.{gap_fits, cost_fits, cost_is}
-use borrow.Author.Rules.{rules}
+use Rattle.correction.proofs.Costs.{cost_fits, cost_is}
 use Rattle.correction.proofs.cost_of.Goals as goal
 
 pub overflow_mul-result : goal.overflow_mul-result

@@ -1,5 +1,4 @@
-use Rattle.correction.proofs.Splits.{quotient_fits, cent_fits, rest_fits, rest_cast, down_is, toward_cast, toward_is}
-use borrow.Author.Rules.{rules}
+use Rattle.correction.proofs.Splits.{down_is, toward_is}
 use Rattle.correction.proofs.money_of.Goals as goal
 
 pub returns-then-rest-lt0 : goal.returns-then-rest-lt0

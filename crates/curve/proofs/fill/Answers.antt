@@ -1,12 +1,9 @@
-use mathlib.Core.Path.{refl, sym, ◌∙◌}
-use Prim.Native.Nat.{◌-◌}
+use mathlib.Core.Path.{sym, ◌∙◌}
 use native.Mathlib.Omega.{arith}
 use lib.ListN.{length-set}
-use Rattle.rules.specs.Terms.{Point}
 use Rattle.curve.specs.Lines.{point}
-use Rattle.curve.proofs.Line.{on_from, on_until, on_nearer, line_starts, line_power, line_next, power_room, power_low, sum_fits, risen_fits, raised_fits}
-use Rattle.curve.proofs.Fills.{Filling, filled_turn, filled_done}
-use borrow.Author.Rules.{rules}
+use Rattle.curve.proofs.Line.{on_from, on_until, line_power, line_next, power_room, power_low}
+use Rattle.curve.proofs.Fills.{filled_turn, filled_done}
 use Rattle.curve.proofs.fill.Goals as goal
 
 pub overflow_sub-powers : goal.overflow_sub-powers

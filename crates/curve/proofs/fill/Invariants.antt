@@ -1,11 +1,6 @@
-use mathlib.Core.Path.{refl, sym, ◌∙◌}
 use Prim.Native.Nat.{◌-◌}
-use native.Mathlib.Omega.{arith}
-use lib.ListN.{length-set}
-use Rattle.rules.specs.Terms.{Point}
 use Rattle.curve.specs.Lines.{point}
-use Rattle.curve.proofs.Line.{on_from, on_until, on_nearer, line_starts, line_power, line_next, power_room, power_low, sum_fits, risen_fits, raised_fits}
-use Rattle.curve.proofs.Fills.{Filling, filled_turn, filled_done}
+use Rattle.curve.proofs.Fills.{Filling}
 use Rattle.curve.proofs.fill.Given as goal
 
 abbrev pub invariant-loop-speed : goal.invariant-loop-speed

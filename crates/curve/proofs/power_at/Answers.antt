@@ -1,6 +1,5 @@
 use Rattle.curve.specs.declared.CurveReading.TheVariants.{Below, On, Above}
 use Rattle.curve.proofs.Readings.{says}
-use borrow.Author.Rules.{rules}
 use Rattle.curve.proofs.power_at.Goals as goal
 
 pub returns-in-Below : goal.returns-in-Below

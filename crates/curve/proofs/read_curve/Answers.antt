@@ -1,8 +1,6 @@
 use mathlib.Core.Path.{sym, ◌∙◌}
-use native.Mathlib.Omega.{arith}
-use borrow.Author.Tests.{ltb-true, ltb-false}
-use Rattle.curve.proofs.Readings.{reading_below, reading_above, reading_on}
-use borrow.Author.Rules.{rules}
+use borrow.Author.Tests.{ltb-false}
+use Rattle.curve.proofs.Readings.{reading_on}
 use Rattle.curve.proofs.read_curve.Goals as goal
 
 pub returns : goal.returns

@@ -2,7 +2,6 @@ use mathlib.Core.Path.{◌∙◌}
 use borrow.Author.Tests.{not-true, not-false, le-leb, lt-leb}
 use lib.Dec.{leb, ltb}
 use Rattle.factor.proofs.Rows.{and_yes, and_no, or_yes, or_no, row_other, row_day, row_night}
-use borrow.Author.Rules.{rules}
 use Rattle.factor.proofs.is_for.Goals as goal
 
 pub returns-then-r-summer : goal.returns-then-r-summer

@@ -1,9 +1,7 @@
-use mathlib.Core.Path.{◌≡◌, refl, sym, ◌∙◌, ap}
-use Prim.Native.Nat.{ℕ, ◌≤◌}
-use native.Mathlib.Omega.{arith}
+use mathlib.Core.Path.{◌≡◌}
+use Prim.Native.Nat.{◌≤◌}
 use lib.ListN.{drop}
-use Rattle.rules.specs.Reference.{factor_rows, first_for, plant_factor}
-use Rattle.factor.proofs.Rows.{row_taken, row_left}
+use Rattle.rules.specs.Reference.{factor_rows, first_for}
 use Rattle.factor.proofs.plant_factor.Given as goal
 
 abbrev pub invariant-loop-i : goal.invariant-loop-i

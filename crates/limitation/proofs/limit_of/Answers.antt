@@ -2,8 +2,7 @@ use mathlib.Core.Path.{subst}
 use Rattle.rules.specs.Archive.{field_at}
 use Rattle.record.specs.Powers.{PowerOf}
 use Rattle.terms.specs.Meanings.{meaning}
-use Rattle.limitation.proofs.Limits.{limited_measured, limited_tolerated, limited_fixed, limited_limit, limited_requested}
-use borrow.Author.Rules.{rules}
+use Rattle.limitation.proofs.Limits.{limited_tolerated, limited_fixed}
 use Rattle.limitation.proofs.limit_of.Goals as goal
 
 pub returns-in-Tolerated : goal.returns-in-Tolerated

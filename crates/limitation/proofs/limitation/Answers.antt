@@ -1,6 +1,5 @@
 use mathlib.Core.Path.{◌∙◌}
 use Rattle.limitation.proofs.Limits.{limit_positive, limit_negative, limit_tolerated, limit_fixed}
-use borrow.Author.Rules.{rules}
 use Rattle.limitation.proofs.limitation.Goals as goal
 
 pub returns-in-Positive : goal.returns-in-Positive

@@ -1,6 +1,5 @@
 use Rattle.std.proofs.lemmas.Bool.{not_from_true, not_from_false}
 use Rattle.record.proofs.Readings.{bound_out_of_range, bound_in_range}
-use borrow.Author.Rules.{rules}
 use Rattle.record.proofs.bounded_at.Goals as goal
 
 pub returns-then-not-in_power_range-word : goal.returns-then-not-in_power_range-word

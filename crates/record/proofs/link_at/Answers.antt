@@ -1,6 +1,5 @@
 use native.Mathlib.Omega.{arith}
 use Rattle.rules.specs.Archive.{link_at}
-use borrow.Author.Rules.{rules}
 use Rattle.record.proofs.link_at.Goals as goal
 
 pub returns : goal.returns

@@ -3,7 +3,6 @@ use mathlib.Core.Path.{◌∙◌, ap}
 use Prim.Native.Nat.{ℕ}
 use Rattle.rules.specs.Archive.{link_at}
 use Rattle.rules.proofs.Chains.{record_part}
-use borrow.Author.Rules.{rules}
 use Rattle.record.proofs.link_of.Goals as goal
 
 pub returns : goal.returns

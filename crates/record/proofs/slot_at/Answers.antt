@@ -5,7 +5,6 @@ use Rattle.rules.proofs.Chains.{record_part}
 use Rattle.rules.proofs.Places.{links_at_lem}
 use Rattle.rules.proofs.Owners.{head_links_lem}
 use Rattle.record.proofs.Slots.{slot_is, slot_none}
-use borrow.Author.Rules.{rules}
 use Rattle.record.proofs.slot_at.Goals as goal
 
 pub returns-then-i-eq0 : goal.returns-then-i-eq0

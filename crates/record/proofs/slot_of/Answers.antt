@@ -1,13 +1,9 @@
-use mathlib.Core.Path.{◌≡◌, refl, sym, ◌∙◌, ap}
-use mathlib.Core.Bool.{true}
+use mathlib.Core.Path.{refl, sym, ◌∙◌, ap}
 use native.Mathlib.Omega.{arith}
-use borrow.Author.Tests.{not-true, not-false}
-use Rattle.rules.specs.Archive.{kind_of, plant_kind, measure_kind}
 use Rattle.rules.specs.Links.{is_kind}
 use Rattle.rules.proofs.Owners.{unknown_links, known_links, plant_links, measure_links, other_links}
 use Rattle.record.specs.declared.Slot.TheVariants as slot
 use Rattle.record.proofs.Slots.{slot_is, slot_none}
-use borrow.Author.Rules.{rules}
 use Rattle.record.proofs.slot_of.Goals as goal
 
 pub returns-then-not-is_kind : goal.returns-then-not-is_kind

@@ -1,6 +1,5 @@
 use mathlib.Core.Path.{◌∙◌, ap}
 use Rattle.rules.specs.Archive.{twos, field_at}
-use borrow.Author.Rules.{rules}
 use Rattle.record.proofs.watt_at.Goals as goal
 
 pub returns : goal.returns

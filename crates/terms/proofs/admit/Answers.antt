@@ -1,5 +1,4 @@
 use Rattle.terms.proofs.Laws.{admit_plant, admit_measure, admit_both, refused_by, allowed_by}
-use borrow.Author.Rules.{rules}
 use Rattle.terms.proofs.admit.Goals as goal
 
 pub returns-then-not-plant_allowed : goal.returns-then-not-plant_allowed

@@ -1,6 +1,5 @@
 use Rattle.terms.specs.Meanings.{meaning}
 use Rattle.terms.proofs.Boundings.{bounding_before, bounding_spitz, bounding_wind, bounding_solar, bounding_positive, bounding_negative}
-use borrow.Author.Rules.{rules}
 use Rattle.terms.proofs.bounding_of.Goals as goal
 
 pub returns-then-terms-lt-OCTOBER_2026 : goal.returns-then-terms-lt-OCTOBER_2026

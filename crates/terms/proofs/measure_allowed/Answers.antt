@@ -1,6 +1,5 @@
 use borrow.Author.Tests.{le-leb, lt-leb, eq-eqb, ne_eqb}
 use Rattle.rules.specs.Terms.{measure_allowed}
-use borrow.Author.Rules.{rules}
 use Rattle.terms.proofs.measure_allowed.Goals as goal
 
 pub returns-then-direction-lt1 : goal.returns-then-direction-lt1

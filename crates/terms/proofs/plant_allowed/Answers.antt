@@ -1,7 +1,6 @@
 use mathlib.Core.Path.{◌∙◌, ap}
 use borrow.Author.Tests.{le-leb, lt-leb}
 use Rattle.rules.specs.Terms.{is_nominal_power, plant_allowed}
-use borrow.Author.Rules.{rules}
 use Rattle.terms.proofs.plant_allowed.Goals as goal
 
 pub returns-then-technology-lt1 : goal.returns-then-technology-lt1

@@ -1,7 +1,6 @@
 use native.Mathlib.Omega.{arith}
 use Rattle.rules.specs.Output.{signed_decimal}
 use Rattle.text.proofs.Decimals.{writes_on, writes_held}
-use borrow.Author.Rules.{rules}
 use Rattle.text.proofs.put_amount.Goals as goal
 
 pub returns : goal.returns

@@ -1,11 +1,8 @@
 use native.Mathlib.Omega.{arith}
-use Prim.Native.Nat.{◌+◌, ◌-◌, ◌≤◌}
-use mathlib.Core.Path.{◌≡◌, refl, ◌∙◌}
-use lib.ListN.{length, length-set}
-use Rattle.rules.specs.Encoding.{put}
-use Rattle.rules.specs.Output.{decimal}
+use Prim.Native.Nat.{◌-◌}
+use mathlib.Core.Path.{◌∙◌}
+use lib.ListN.{length-set}
 use Rattle.text.proofs.Decimals.{digits_one, digits_longer, digit_set, digit_first}
-use borrow.Author.Rules.{rules}
 use Rattle.text.proofs.put_digits.Goals as goal
 
 pub overflow_sub-i : goal.overflow_sub-i

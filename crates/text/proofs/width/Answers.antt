@@ -1,11 +1,6 @@
 use native.Mathlib.Omega.{arith}
-use Prim.Native.Nat.{◌+◌, ◌≤◌}
-use mathlib.Core.Path.{◌≡◌}
-use lib.ListN.{length}
-use Rattle.rules.specs.Output.{decimal}
 use Rattle.rules.proofs.Output.{decimal_length}
 use Rattle.text.proofs.Decimals.{digits_one, digits_longer}
-use borrow.Author.Rules.{rules}
 use Rattle.text.proofs.width.Goals as goal
 
 pub overflow_add-digits : goal.overflow_add-digits

@@ -1,10 +1,7 @@
-use native.Mathlib.Omega.{arith}
 use Prim.Native.Nat.{◌+◌, ◌≤◌}
 use mathlib.Core.Path.{◌≡◌}
 use lib.ListN.{length}
 use Rattle.rules.specs.Output.{decimal}
-use Rattle.rules.proofs.Output.{decimal_length}
-use Rattle.text.proofs.Decimals.{digits_one, digits_longer}
 use Rattle.text.proofs.width.Given as goal
 
 abbrev pub invariant-loop-rest : goal.invariant-loop-rest

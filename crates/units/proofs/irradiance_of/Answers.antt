@@ -1,6 +1,5 @@
 use native.Mathlib.Omega.{arith}
 use Rattle.units.proofs.Words.{word_natural}
-use borrow.Author.Rules.{rules}
 use Rattle.units.proofs.irradiance_of.Goals as goal
 
 pub returns : goal.returns

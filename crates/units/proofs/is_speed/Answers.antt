@@ -1,6 +1,5 @@
 use native.Mathlib.Omega.{arith}
 use Rattle.units.proofs.Words.{word_within}
-use borrow.Author.Rules.{rules}
 use Rattle.units.proofs.is_speed.Goals as goal
 
 pub returns : goal.returns

@@ -1,6 +1,5 @@
 use mathlib.Core.Path.{sym, ◌∙◌}
 use Rattle.rules.specs.Numbers.{smaller}
-use borrow.Author.Rules.{rules}
 use Rattle.units.proofs.smaller.Goals as goal
 
 pub returns-then-is_at_most : goal.returns-then-is_at_most

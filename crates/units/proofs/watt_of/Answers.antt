@@ -1,9 +1,8 @@
 use mathlib.Core.Path.{sym, ◌∙◌}
-use Prim.Native.Nat.{suc, ◌+◌, ◌%◌, ◌^◌}
+use Prim.Native.Nat.{◌+◌, ◌%◌, ◌^◌}
 use native.Mathlib.Omega.{arith}
 use Rattle.rules.proofs.Ints.{twos_biased}
-use Rattle.units.proofs.Laws.{minus_fits, minus_is}
-use borrow.Author.Rules.{rules}
+use Rattle.units.proofs.Laws.{minus_is}
 use Rattle.units.proofs.watt_of.Goals as goal
 
 pub returns : goal.returns

@@ -1,10 +1,7 @@
-use mathlib.Core.Path.{◌≡◌, refl, ◌∙◌}
-use Prim.Native.Nat.{◌-◌, ◌≤◌}
+use mathlib.Core.Path.{refl, ◌∙◌}
 use native.Mathlib.Omega.{arith}
-use lib.ListN.{length, take, replicate, length-set}
-use Rattle.rules.specs.Encoding.{put}
+use lib.ListN.{length, replicate, length-set}
 use Rattle.rules.proofs.Writes.{wrote_none, zeros_more, zeros_all}
-use borrow.Author.Rules.{rules}
 use Rattle.writing.proofs.clear.Goals as goal
 
 pub loop-place-init : goal.loop-place-init

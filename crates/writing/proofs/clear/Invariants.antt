@@ -1,9 +1,7 @@
-use mathlib.Core.Path.{◌≡◌, refl, ◌∙◌}
+use mathlib.Core.Path.{◌≡◌}
 use Prim.Native.Nat.{◌-◌, ◌≤◌}
-use native.Mathlib.Omega.{arith}
-use lib.ListN.{length, take, replicate, length-set}
+use lib.ListN.{length, take, replicate}
 use Rattle.rules.specs.Encoding.{put}
-use Rattle.rules.proofs.Writes.{wrote_none, zeros_more, zeros_all}
 use Rattle.writing.proofs.clear.Given as goal
 
 abbrev pub invariant-loop-place : goal.invariant-loop-place

@@ -1,10 +1,7 @@
-use mathlib.Core.Path.{◌≡◌, refl, ◌∙◌}
-use Prim.Native.Nat.{◌-◌, ◌≤◌}
+use mathlib.Core.Path.{refl}
 use native.Mathlib.Omega.{arith}
-use lib.ListN.{length, take, length-set}
-use Rattle.rules.specs.Encoding.{put}
-use Rattle.rules.proofs.Writes.{wrote_none, wrote_more, wrote_all}
-use borrow.Author.Rules.{rules}
+use lib.ListN.{length-set}
+use Rattle.rules.proofs.Writes.{wrote_none, wrote_more}
 use Rattle.writing.proofs.put_bytes.Goals as goal
 
 pub loop-i-init : goal.loop-i-init

@@ -1,9 +1,6 @@
 use Prim.Native.Nat.{◌/◌, ◌%◌}
-use native.Mathlib.Omega.{arith}
-use lib.ListN.{length-set}
 use Rattle.rules.specs.Encoding.{double_word}
 use Rattle.writing.proofs.Places.{eight_stored}
-use borrow.Author.Rules.{rules}
 use Rattle.writing.proofs.put_double_word.Goals as goal
 
 pub returns : goal.returns

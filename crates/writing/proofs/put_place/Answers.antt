@@ -1,5 +1,4 @@
 use Rattle.writing.proofs.Places.{part_back}
-use borrow.Author.Rules.{rules}
 use Rattle.writing.proofs.put_place.Goals as goal
 
 pub returns : goal.returns

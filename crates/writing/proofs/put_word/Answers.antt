@@ -1,5 +1,4 @@
 use Rattle.rules.specs.Encoding.{word}
-use borrow.Author.Rules.{rules}
 use Rattle.writing.proofs.put_word.Goals as goal
 
 pub returns : goal.returns
