@@ -46,11 +46,14 @@ $(PROGRAM): $(SOURCES) c/signals.c
 
 lib: $(LIB)/libsandegmur.a $(LIB)/libsandegmur.so $(LIB)/sandegmur.h $(LIB)/sandegmur.pc
 
-# A host's own function settle takes the place of a weak one.
-$(LIB)/libsandegmur.a: $(SOURCES)
+crates/host/out/libhost.a: $(SOURCES)
 	.ci/check host lib
+	touch $@
+
+# A host's own function settle takes the place of a weak one.
+$(LIB)/libsandegmur.a: crates/host/out/libhost.a
 	mkdir -p $(LIB)
-	objcopy --weaken-symbol=settle crates/host/out/libhost.a $@
+	objcopy --weaken-symbol=settle $< $@
 
 # Both names are files, since `rt ci` refuses a link anywhere in the checkout.
 $(LIB)/libsandegmur.so: $(LIB)/libsandegmur.a
