@@ -8,7 +8,7 @@
 What stands between backticks on the page is one of these:
 
     `rules/proofs/ReadBack.antt`        a path of the repository; `crates/` in front may be left out, `*` is any name
-    ..: `read-again`, `files`           names behind a file, each declared in it; a remark in brackets may stand between
+    ..: `read_again`, `files`           names behind a file, each declared in it; a remark in brackets may stand between
     `settle::settle(archive, p)`        a function of a crate, with its parameters where they are given
     `settle/full_list_refused`          a wrong program or rule of a crate's must-fail edits
     `make test`                         a target of the Makefile
