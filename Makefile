@@ -35,20 +35,23 @@ run: program
 test:
 	.ci/run
 
-# rt proves every crate below, builds the program and runs it; what it built is linked anew with c/signals.c.
-program:
-	cd crates/sandegmur && rt run < stdin > /dev/null
-	mkdir -p target
-	$(CC) $(CFLAGS) c/signals.c crates/sandegmur/out/sandegmur.o $(RUNTIME) -Wl,--wrap=__sysv_signal -o $(PROGRAM)
+program: $(PROGRAM)
 
-$(PROGRAM): $(SOURCES) c/signals.c
-	$(MAKE) program
+# rt proves every crate below, builds the program and runs it.
+crates/sandegmur/out/sandegmur.o: $(SOURCES)
+	.ci/check sandegmur run < crates/sandegmur/stdin > /dev/null
+	touch -c $@
+
+# What rt built, linked anew with c/signals.c.
+$(PROGRAM): crates/sandegmur/out/sandegmur.o c/signals.c
+	mkdir -p target
+	$(CC) $(CFLAGS) c/signals.c $< $(RUNTIME) -Wl,--wrap=__sysv_signal -o $@
 
 lib: $(LIB)/libsandegmur.a $(LIB)/libsandegmur.so $(LIB)/sandegmur.h $(LIB)/sandegmur.pc
 
 crates/host/out/libhost.a: $(SOURCES)
 	.ci/check host lib
-	touch $@
+	touch -c $@
 
 # A host's own function settle takes the place of a weak one.
 $(LIB)/libsandegmur.a: crates/host/out/libhost.a
