@@ -14,9 +14,8 @@
 PREFIX ?= /usr/local
 PROGRAM := target/sandegmur
 LIB := target/lib
-INSTALLED := $(CURDIR)/target/installed
 PRINTED := target/printed
-SOURCES := crates.txt $(shell find crates -name '*.rt' -o -name '*.antt')
+SOURCES := crates.txt $(shell find crates -name out -prune -o '(' -name '*.rt' -o -name '*.antt' ')' -print)
 version = $(shell sed -n 's/^.define SANDEGMUR_VERSION_$(1) //p' include/sandegmur.h)
 VERSION := $(call version,MAJOR).$(call version,MINOR)
 # what rt links with every program
@@ -36,27 +35,33 @@ run: program
 test:
 	.ci/run
 
-# rt proves every crate below, builds the program and runs it; what it built is linked anew with c/signals.c.
-program:
-	cd crates/sandegmur && rt run < stdin > /dev/null
-	mkdir -p target
-	$(CC) $(CFLAGS) c/signals.c crates/sandegmur/out/sandegmur.o $(RUNTIME) -Wl,--wrap=__sysv_signal -o $(PROGRAM)
+program: $(PROGRAM)
 
-$(PROGRAM): $(SOURCES) c/signals.c
-	$(MAKE) program
+# rt proves every crate below, builds the program and runs it.
+crates/sandegmur/out/sandegmur.o: $(SOURCES)
+	.ci/check sandegmur run < crates/sandegmur/stdin > /dev/null
+	touch -c $@
+
+# What rt built, linked anew with c/signals.c.
+$(PROGRAM): crates/sandegmur/out/sandegmur.o c/signals.c
+	mkdir -p target
+	$(CC) $(CFLAGS) c/signals.c $< $(RUNTIME) -Wl,--wrap=__sysv_signal -o $@
 
 lib: $(LIB)/libsandegmur.a $(LIB)/libsandegmur.so $(LIB)/sandegmur.h $(LIB)/sandegmur.pc
 
-# What the library stands on first, crates of one level beside each other. A host's own function settle takes the place of a weak one.
-$(LIB)/libsandegmur.a: $(SOURCES)
-	.ci/check takeback audit correction preview
-	rt staticlib host
-	mkdir -p $(LIB)
-	objcopy --weaken-symbol=settle target/staticlib/libhost.a $@
+crates/host/out/libhost.a: $(SOURCES)
+	.ci/check host lib
+	touch -c $@
 
+# A host's own function settle takes the place of a weak one.
+$(LIB)/libsandegmur.a: crates/host/out/libhost.a
+	mkdir -p $(LIB)
+	objcopy --weaken-symbol=settle $< $@
+
+# Both names are files, since `rt ci` refuses a link anywhere in the checkout.
 $(LIB)/libsandegmur.so: $(LIB)/libsandegmur.a
 	$(CC) -shared -nostartfiles -Wl,-z,defs,-z,now,-soname,$(SHARED) -Wl,--whole-archive $< -Wl,--no-whole-archive -o $(LIB)/$(SHARED)
-	ln -sf $(SHARED) $@
+	cp $(LIB)/$(SHARED) $@
 
 $(LIB)/sandegmur.h: include/sandegmur.h
 	mkdir -p $(LIB)
@@ -98,7 +103,7 @@ check-c: lib printed
 	tests/c.sh $(LIB) "$(CFLAGS)" $(PRINTED)
 
 check-install: lib program printed
-	tests/install.sh $(INSTALLED) $(VERSION) "$(CC) $(CFLAGS)" $(PRINTED)
+	tests/install.sh $(VERSION) "$(CC) $(CFLAGS)" $(PRINTED)
 
 check-program: program printed
 	cmp $(PRINTED)/archive crates/sandegmur/stdin

@@ -1,12 +1,12 @@
 #!/usr/bin/env bash
 # What `make install` puts below a prefix, and that it proves nothing again: here rt is a program that fails. The installed program is
-# run, and the example built by what pkg-config says of the installed copy and nothing else. Arguments: the prefix, the header's version,
-# the compiler with its flags, the folder of document 01's printed example.
+# run, and the example built by what pkg-config says of the installed copy and nothing else. Arguments: the header's version, the compiler
+# with its flags, the folder of document 01's printed example.
 set -euo pipefail
-prefix=$1 version=$2 compiler=$3 printed=$4
+version=$1 compiler=$2 printed=$3
 work=$(mktemp -d)
+prefix=$work/installed
 trap 'rm -rf "$work"' EXIT
-rm -rf "$prefix"
 printf '#!/bin/sh\nexit 1\n' > "$work/rt"
 chmod +x "$work/rt"
 PATH=$work:$PATH MAKEFLAGS='' make -s install PREFIX="$prefix"

@@ -2,7 +2,7 @@
 """How much the contracts rule out: small changes of the sources, made by rule, that the prover should refuse. Not a part of the gate.
 
     mutants.py FOLDER [MOST]    a copy of the repository whose edits are such changes, MOST (10) of a function or fewer
-    mutants.py                  in that copy, once `rt must-fail` has run there: how many were refused, and each that wasn't
+    mutants.py                  in that copy: has `rt check` try each edit, and tells how many changes were refused, and each that wasn't
 
 A change is a number one more or one less, another end of a comparison, `true` for `false`, a `!` left out, the next refusal or kind of the
 table in the place of one. A line that stands twice in its source is left alone, since an edit couldn't tell which is meant. A change that
@@ -18,6 +18,9 @@ import edits
 
 COMPARED = {"<": "<=", "<=": "<", "==": "!=", "!=": "=="}
 NEGATED = {"true": "false", "false": "true"}
+# What `rt check` says of a function, and how that begins where its own proof holds, whether or not what it calls is proved.
+VERDICT = re.compile(r"^fn (\S+): (.*)$", re.M)
+HOLDS = re.compile(r"proved$|no proof: it calls\b")
 
 
 def table(name):
@@ -83,21 +86,38 @@ def make(folder, most):
     print(f"{folder}: {count} changes")
 
 
+def verdicts(crate, edit):
+    """What rt says of each function of a crate with an edit in it: the words behind the function's name."""
+    path = edits.ROOT / f"crates/{crate}/src/lib.rt"
+    source = path.read_text(encoding="utf-8")
+    text = source
+    for change in (change for wrong in edit for change in wrong.changes):
+        text = text.replace(change.old, change.new, 1)
+    path.write_text(text, encoding="utf-8")
+    try:
+        said = subprocess.run(["rt", "check"], cwd=path.parent.parent, capture_output=True, text=True).stdout
+    finally:
+        path.write_text(source, encoding="utf-8")
+    return {m[1].rpartition("::")[2]: m[2] for m in VERDICT.finditer(said)}
+
+
+def result_of(verdict):
+    if verdict is None:
+        return "not tried"
+    return "not refused" if HOLDS.match(verdict) else "refused"
+
+
 def read():
-    told = {"refused": 0, "refused at the shape of its proof": 0, "not refused": 0, "not tried": 0}
+    told = dict.fromkeys(("refused", "not refused", "not tried"), 0)
     for edit in edits.read_edits():
-        logs = edits.ROOT / "target/must-fail" / edit[0].crate / edit[0].edit
-        tried = (logs / ".log").exists() and "\nlogic=" in edits.text_of(logs / ".log")
-        refusals = edits.refusals(logs) if tried else []
+        found = verdicts(edit[0].crate, edit)
         for wrong in edit:
             function, _ = edits.place(wrong)
-            own = [r for r in refusals if r.where == function and r.is_own()]
-            if any(r.is_fact() for r in own):
-                told["refused"] += 1
-            else:
-                result = "refused at the shape of its proof" if own else "not refused" if tried else "not tried"
-                told[result] += 1
-                print(f"{wrong.crate}::{function} {result}: {wrong.changes[0].old.strip()}  =>  {wrong.changes[0].new.strip()}")
+            result = result_of(found.get(function))
+            told[result] += 1
+            if result != "refused":
+                change = wrong.changes[0]
+                print(f"{wrong.crate}::{function} {result}: {change.old.strip()}  =>  {change.new.strip()}", flush=True)
     print(", ".join(f"{count} {result}" for result, count in told.items()))
 
 

@@ -8,7 +8,7 @@
 What stands between backticks on the page is one of these:
 
     `rules/proofs/ReadBack.antt`        a path of the repository; `crates/` in front may be left out, `*` is any name
-    ..: `read-again`, `files`           names behind a file, each declared in it; a remark in brackets may stand between
+    ..: `read_again`, `files`           names behind a file, each declared in it; a remark in brackets may stand between
     `settle::settle(archive, p)`        a function of a crate, with its parameters where they are given
     `settle/full_list_refused`          a wrong program or rule of a crate's must-fail edits
     `make test`                         a target of the Makefile
@@ -33,7 +33,7 @@ ROOT = Path(__file__).resolve().parent.parent
 PAGE = ROOT / "docs/PROMISES.md"
 
 # Words for what isn't in the repository: the kit, its commands, and words of its language.
-WORDS = ("rattle-kit-5b-plain", "097e4c862dff5811", "rt prove", "rt check", "requires", "&[u8]", "const")
+WORDS = ("rattle-kit-13f", "dac8208d650f15bf", "rt ci", "requires", "&[u8]", "const")
 
 # What numbers stand in that count nothing in the tree: names of papers, sizes and numbers of the format, and what was run by hand.
 PHRASES = (
@@ -109,7 +109,7 @@ SPAN = re.compile(r"`([^`\n]*)`")
 JOIN = re.compile(r"(?: \([^()`|]*\))?(?:[,:]|,? and)\s+")
 NUMBER = re.compile(r"(?<!\w)\d+(?:,\d{3})*")
 UNQUOTED = re.compile(r"\w+_\w+|\w+::\w+|\w+\.(?:antt|rt|rs|py|md|edit|sh|txt)\b|\w+/\w+")
-FUNCTION = re.compile(r'^(?:pub )?(extern "C" )?fn (\w+)\(([^()]*)\)[^\n{]*(?:\{\n|\n((?:    .*\n)*)\{\n)', re.M)
+FUNCTION = re.compile(r'^(?:pub )?(extern "C" )?fn (\w+)(?:<[^<>]*>)?\(([^()]*)\)[^\n{]*(?:\{\n|\n((?:    .*\n)*)\{\n)', re.M)
 CLAUSE = re.compile(r"^    (requires|ensures) (.*?)(?=^    (?:requires|ensures) |\Z)", re.M | re.S)
 ROW = re.compile(r"^\|(?!---)(.*)\|$", re.M)
 TABLE = re.compile(r"(?<=\n\| Crate \| Text changed in \| Labels \|\n\|---\|---\|---\|\n)(?:\|.*\n)+")
@@ -133,11 +133,11 @@ class Tree:
     def __init__(self):
         self.paths = set()
         for folder, folders, files in os.walk(ROOT):
-            folders[:] = [name for name in folders if name not in (".git", "target", "__pycache__")]
+            folders[:] = [name for name in folders if name not in (".git", "target", "out", "__pycache__")]
             at = Path(folder).relative_to(ROOT)
             self.paths.update((at / name).as_posix() for name in folders + files)
         self.texts = {}
-        self.crates = {name: words.split() for name, words in re.findall(r"^(\w+):(.*)$", self.text("crates.txt"), re.M)}
+        self.crates = {name: words.split() for name, words in re.findall(r"^(\w+)(?: staticlib)?:(.*)$", self.text("crates.txt"), re.M)}
         self.targets = set(re.findall(r"^([\w-]+):(?!=)", self.text("Makefile"), re.M))
         self.names = {}
 
