@@ -1,5 +1,6 @@
 // The exact magnitude of a quarter (document 01, 'Exact magnitude'): its numerator over 4 × D.
 #![tactic(auto)]
+
 ghost use Rattle.std.specs.Prelude.{◌≡◌, [], ◌≤◌, length};
 ghost use Rattle.std.specs.Int.Signed.{mag};
 ghost use Rattle.rules.specs.Numbers.{or_zero};

@@ -1,15 +1,10 @@
 -- The three places of the result part.
-use mathlib.Core.Path.{◌≡◌, refl, sym, ◌∙◌, ap}
-use mathlib.Core.List.{List, [], ◌∷◌, ◌++◌, map, append_assoc, append-nil}
-use Prim.Native.Nat.{ℕ, zero, suc, ◌+◌, ◌*◌, ◌-◌, ◌/◌, ◌%◌, ◌^◌, ◌≤◌, ◌<◌}
-use native.Mathlib.Omega.{arith}
-use lib.ListN.{length, get_or, take, drop, length-append, length-drop, take-append-drop}
-use lib.Seq.{sets, sets-eq, drop-drop, drop-length, take_at, drop_at, length-take-le}
-use borrow.Rule.Slice.PartMut.{put_mid}
-use Rattle.rules.specs.declared.Direction.{Direction}
-use Rattle.rules.specs.declared.Direction.TheVariants.{Positive}
-use Rattle.rules.specs.Encoding.{double_word, bits, encoded, put}
-use Rattle.rules.specs.Booking.{signed, amounts_of, carried_from}
+use mathlib.Core.Path.{◌≡◌, sym, ◌∙◌, ap}
+use mathlib.Core.List.{List, [], ◌++◌}
+use Prim.Native.Nat.{ℕ}
+use lib.ListN.{length, drop}
+use lib.Seq.{drop-drop, drop-length}
+use Rattle.rules.specs.Encoding.{double_word, put}
 
 pub three_places : (o o₁ o₂ o₃ : List ℕ) (a b c : ℕ) → length o ≡ 24 → o₁ ≡ put o 0 (double_word a) → o₂ ≡ put o₁ 8 (double_word b) → o₃ ≡ put o₂ 16 (double_word c)
     → o₃ ≡ double_word a ++ (double_word b ++ double_word c)

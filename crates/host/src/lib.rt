@@ -1,5 +1,6 @@
 // The calls for the operator's host, written in C (documents 01, 'Calls on the archive', and 02); include/sandegmur.h declares them.
 #![tactic(auto)]
+
 ghost use Rattle.std.specs.Prelude.{◌≡◌, ◌/◌, ◌≤◌, min, length, ◌++◌};
 ghost use Rattle.rules.specs.Encoding.{double_word};
 ghost use Rattle.rules.specs.Promises.{HostSettles, Freshens, Appends, TakesBack, HostPreviews, Audits, Delivers, HostCorrects};

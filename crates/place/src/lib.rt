@@ -1,5 +1,6 @@
 // The place of a measure in the archive: its plant and itself (document 01, 'Calls on the archive').
 #![tactic(auto)]
+
 ghost use Rattle.std.specs.Prelude.{◌≡◌, ◌*◌, ◌≤◌, ◌<◌, length};
 ghost use Rattle.rules.specs.Archive.{entry_at};
 ghost use Rattle.rules.specs.Settle.{place_of};

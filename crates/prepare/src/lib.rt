@@ -1,5 +1,6 @@
 // Every test of a measure but that of the lent list (document 01, 'Calls on the archive'); its exact magnitudes into a sheet.
 #![tactic(auto)]
+
 ghost use Rattle.std.specs.Prelude.{◌≡◌, true, false};
 ghost use Rattle.rules.specs.Settle.{basis_of, settled};
 ghost use Rattle.place.specs.Places.{meant, Lies};

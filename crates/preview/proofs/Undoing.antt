@@ -9,7 +9,7 @@ use Rattle.rules.specs.Outcome.{Outcome, refused, given}
 use Rattle.rules.specs.Archive.{record_at}
 use Rattle.rules.specs.Settle.{Settlement, Answer, answer_of, list_after}
 use Rattle.rules.specs.Encoding.{put}
-use Rattle.rules.specs.Filing.{append_after, append}
+use Rattle.rules.specs.Filing.{append_after}
 use Rattle.rules.specs.Preview.{undone}
 use Rattle.rules.specs.Promises.{Settles, Previews}
 use Rattle.rules.specs.Demands.{AreBytes}

@@ -1,6 +1,7 @@
 // Preview (document 02, 6): what settle would give with one more record. The archive is lent for writing: the record is appended, the measure
 // settled, and every byte put back, whatever settle answers.
 #![tactic(auto)]
+
 ghost use Rattle.std.specs.Prelude.{◌≡◌, length};
 ghost use Rattle.rules.specs.Preview.{undone};
 ghost use Rattle.rules.specs.Promises.{Previews};

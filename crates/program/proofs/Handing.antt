@@ -1,20 +1,20 @@
 -- What is handed over while the report goes on, and once it is finished.
 use mathlib.Core.Path.{◌≡◌, refl, sym, ap, subst}
 use mathlib.Core.Bool.{true}
-use mathlib.Core.List.{List, [], ◌++◌}
+use mathlib.Core.List.{List, []}
 use Prim.Native.Nat.{ℕ, ◌+◌, ◌≤◌}
 use native.Mathlib.Omega.{arith}
 use lib.IntN.{ℤ}
 use lib.ListN.{length, take}
 use Rattle.rules.specs.Output.{text_of_all, output}
 use Rattle.report.specs.declared.Cursor.{Cursor}
-use Rattle.report.specs.Cursors.{rest, finished, Fits, Begins, Fills}
+use Rattle.report.specs.Cursors.{rest, finished, Begins, Fills}
 use Rattle.report.proofs.Laws.{finished_none}
 use Rattle.output.specs.declared.Handed.{Handed}
 use Rattle.output.specs.declared.Handed.TheVariants as handed
 use Rattle.output.specs.declared.Output.{Output}
 use Rattle.output.specs.declared.Failure.{Failure}
-use Rattle.output.specs.Handing.{Left, Hands, HandsAll}
+use Rattle.output.specs.Handing.{Hands, HandsAll}
 use Rattle.output.proofs.Laws.{left_after, left_none}
 use Rattle.program.specs.Due.{RestDue}
 

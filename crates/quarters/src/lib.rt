@@ -1,6 +1,7 @@
 // One walk over a measure's quarters (documents 01, 'Calls on the archive', and 02, 1 and 3): each is tested and counted, and its exact magnitude
 // is written into a sheet.
 #![tactic(auto)]
+
 ghost use Rattle.std.specs.Prelude.{◌≡◌, ◌&&◌, [], ◌≤◌, leb};
 ghost use Rattle.std.specs.Int.Signed.{mag};
 ghost use Rattle.rules.specs.October.{bounding_of};

@@ -1,5 +1,6 @@
 // The reference power T of a measure's quarters (document 01, 'Reference power T'): a numerator over one denominator D.
 #![tactic(auto)]
+
 ghost use Rattle.std.specs.Prelude.{◌≡◌, ◌≤◌, ◌<◌, length};
 ghost use Rattle.std.specs.Int.Signed.{mag};
 ghost use Rattle.rules.specs.Numbers.{or_zero, smaller};

@@ -1,5 +1,6 @@
 // The program's output line by line (document 01, 'Calls on the archive'): where it stands, and its lines into a lent part of bytes.
 #![tactic(auto)]
+
 ghost use Rattle.std.specs.Prelude.{◌≡◌, List, ℕ, ◌+◌, ◌≤◌, ◌<◌, length};
 ghost use Rattle.rules.specs.Outcome.{refused};
 ghost use Rattle.rules.specs.Output.{lines_of, step_after, text_of_all};

@@ -1,5 +1,6 @@
 // Settle (document 01, 'Calls on the archive'): the amounts of one measure into a lent list.
 #![tactic(auto)]
+
 ghost use Rattle.std.specs.Prelude.{◌≡◌, ◌≤◌, min, length};
 ghost use Rattle.rules.specs.Promises.{Settles};
 ghost use Rattle.settle.specs.Answers.{answered, prepared_number};

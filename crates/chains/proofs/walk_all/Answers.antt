@@ -9,9 +9,9 @@ use Rattle.chains.proofs.walk_all.Goals as goal
 
 pub returns-in_default : goal.returns-in_default
 returns-in_default c =
-    end_refused _ ((let a = c.args in
+    end_refused _ (let a = c.args in
     ap (chain a.archive.now a.used a.kind a.holder)
-    (sym (c.link_of-link.ensures.0 ∙ link_of a.archive.now a.holder a.offset c.requires.within))))
+    (sym (c.link_of-link.ensures.0 ∙ link_of a.archive.now a.holder a.offset c.requires.within)))
     (walk_refused onward _ _ _ c.loop-link.invariant.0 c.follow-answer.ensures (no_at c.follow-answer.result c.in_default.not-At) (omega arith))
     c.refusal_of.ensures
 
@@ -29,6 +29,6 @@ loop-link-preserved c =
 pub returns : goal.returns
 returns c =
     let a = c.args in
-    end_reached (32 * a.holder + a.offset) ((let a = c.args in
+    end_reached (32 * a.holder + a.offset) (let a = c.args in
     ap (chain a.archive.now a.used a.kind a.holder)
-    (sym (c.link_of-link.ensures.0 ∙ link_of a.archive.now a.holder a.offset c.requires.within)))) (walk_ends onward _ _ _ c.loop-link.invariant.0 (omega arith))
+    (sym (c.link_of-link.ensures.0 ∙ link_of a.archive.now a.holder a.offset c.requires.within))) (walk_ends onward _ _ _ c.loop-link.invariant.0 (omega arith))

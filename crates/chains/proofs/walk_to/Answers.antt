@@ -20,7 +20,7 @@ pub loop-n-preserved : goal.loop-n-preserved
 loop-n-preserved c =
     let a = c.args in (
       c.loop-n.invariant.0
-          ∙ place_turn a.archive.now a.used a.kind c.loop-n.reached c.loop-n.link _ c.link_of-link.result ((met _ _ _ _ _ c.follow-answer.result c.follow-answer.ensures _ c.in-At.is)) c.link_of-link.ensures.0
+          ∙ place_turn a.archive.now a.used a.kind c.loop-n.reached c.loop-n.link _ c.link_of-link.result (met _ _ _ _ _ c.follow-answer.result c.follow-answer.ensures _ c.in-At.is) c.link_of-link.ensures.0
           a.missing a.place c.loop-n.links (omega arith),
       omega arith,
       omega arith,

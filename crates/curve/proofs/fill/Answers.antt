@@ -21,7 +21,7 @@ loop-speed-preserved c =
     record {
       same =
           c.loop-speed.invariant.same
-          ∙ filled_turn ((point c.args.s0 c.args.p0)) ((point c.args.s1 c.args.p1)) c.args.s1 c.loop-speed.speed _ c.loop-speed.powers h (line_power c.requires.1 c.loop-speed.speed c.loop-speed.invariant.from h c.loop-speed.invariant.line);
+          ∙ filled_turn (point c.args.s0 c.args.p0) (point c.args.s1 c.args.p1) c.args.s1 c.loop-speed.speed _ c.loop-speed.powers h (line_power c.requires.1 c.loop-speed.speed c.loop-speed.invariant.from h c.loop-speed.invariant.line);
       from = on_from c.loop-speed.invariant.from;
       until = on_until h;
       line = line_next c.requires.1 c.loop-speed.speed c.loop-speed.invariant.from h c.loop-speed.invariant.line;
@@ -30,4 +30,4 @@ loop-speed-preserved c =
 
 pub returns : goal.returns
 returns c =
-    sym (c.loop-speed.invariant.same ∙ filled_done ((point c.args.s0 c.args.p0)) ((point c.args.s1 c.args.p1)) c.args.s1 c.loop-speed.speed c.loop-speed.powers c.loop-speed-test.false)
+    sym (c.loop-speed.invariant.same ∙ filled_done (point c.args.s0 c.args.p0) (point c.args.s1 c.args.p1) c.args.s1 c.loop-speed.speed c.loop-speed.powers c.loop-speed-test.false)

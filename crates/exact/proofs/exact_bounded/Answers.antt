@@ -4,9 +4,8 @@ use native.Mathlib.Omega.{arith}
 use lib.IntN.{ℤ}
 use lib.Signed.{mag}
 use Rattle.rules.specs.Archive.{field_at}
-use Rattle.rules.specs.Terms.{Quarter, quarter_of}
+use Rattle.rules.specs.Terms.{quarter_of}
 use Rattle.rules.specs.October.{reference_bounds, limitation_bounds}
-use Rattle.rules.specs.Reference as book
 use Rattle.rules.specs.Reference.{magnitude}
 use Rattle.units.proofs.Laws.{held, back}
 use Rattle.record.specs.declared.Power.TheVariants as power
@@ -14,9 +13,7 @@ use Rattle.record.specs.Powers.{SmallestOf}
 use Rattle.record.proofs.Readings.{smallest_power}
 use Rattle.terms.specs.Meanings.{meaning}
 use Rattle.limitation.specs.Limits.{LimitedTo}
-use Rattle.exact.specs.Exacts.{ReadFrom}
-use Rattle.exact.proofs.Exacts.{read_from_lem, limited_low, limited_read, exact_unlimited, bounded_unreferred, bounded_unlimited, bounded_is}
-use borrow.Author.Rules.{rules}
+use Rattle.exact.proofs.Exacts.{read_from_lem, limited_low, limited_read, bounded_is}
 use Rattle.exact.proofs.exact_bounded.Goals as goal
 
 power_room : (z : ℤ) → mag z ≤ 1000000000 → mag (held z) ≤ 4000000000000000000

@@ -10,7 +10,6 @@ use Rattle.rules.specs.Reference.{magnitude}
 use Rattle.units.proofs.Laws.{back}
 use Rattle.terms.specs.Meanings.{meaning}
 use Rattle.exact.proofs.Exacts.{exact_unlimited, limited_small, referred_small, exact_is}
-use borrow.Author.Rules.{rules}
 use Rattle.exact.proofs.exact_by_date.Goals as goal
 
 pub returns-in_default : goal.returns-in_default

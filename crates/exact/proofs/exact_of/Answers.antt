@@ -8,8 +8,7 @@ use Rattle.rules.specs.Reference.{magnitude}
 use Rattle.units.proofs.Laws.{back}
 use Rattle.terms.specs.Meanings.{meaning}
 use Rattle.reference.proofs.References.{means_bounded}
-use Rattle.exact.proofs.Exacts.{exact_unlimited, exact_unreferred, limited_small, referred_small, exact_is}
-use borrow.Author.Rules.{rules}
+use Rattle.exact.proofs.Exacts.{exact_unlimited, limited_small, referred_small, exact_is}
 use Rattle.exact.proofs.exact_of.Goals as goal
 
 pub returns-in_default : goal.returns-in_default

@@ -1,6 +1,5 @@
 use mathlib.Core.Path.{◌∙◌}
-use Rattle.exact.proofs.Magnitudes.{product_fits, differences_fit, magnitude_positive, magnitude_negative}
-use borrow.Author.Rules.{rules}
+use Rattle.exact.proofs.Magnitudes.{magnitude_positive, magnitude_negative}
 use Rattle.exact.proofs.magnitude.Goals as goal
 
 pub returns-in-Positive : goal.returns-in-Positive

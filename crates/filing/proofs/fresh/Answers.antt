@@ -7,4 +7,4 @@ returns-then-not-is_whole c = fresh_refused c.args.archive.now (sym c.is_whole.e
 
 pub returns : goal.returns
 returns c =
-    fresh_done c.args.archive.now ((sym c.is_whole.ensures ∙ c.if-not-is_whole.false)) c.clear.new.archive _ c.clear.ensures c.put_bytes.ensures
+    fresh_done c.args.archive.now (sym c.is_whole.ensures ∙ c.if-not-is_whole.false) c.clear.new.archive _ c.clear.ensures c.put_bytes.ensures

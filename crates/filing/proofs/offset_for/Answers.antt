@@ -16,7 +16,7 @@ loop-i-init c =
 
 pub returns-then-to-kind : goal.returns-then-to-kind
 returns-then-to-kind c =
-    sym (offset_is c.loop-i.invariant.0 ((here _ _ c.slot_at.ensures c.in-Link.is)) c.if-at-ne4.true (eq-eqb _ _ c.if-to-kind.true))
+    sym (offset_is c.loop-i.invariant.0 (here _ _ c.slot_at.ensures c.in-Link.is) c.if-at-ne4.true (eq-eqb _ _ c.if-to-kind.true))
 
 pub returns-after-loop-i : goal.returns-after-loop-i
 returns-after-loop-i c = sym (offset_none c.loop-i.invariant.0 (past_all _ (at_few _ _) c.loop-i-test.false))

@@ -1,5 +1,4 @@
 use Rattle.host.proofs.Results.{three_places}
-use borrow.Author.Rules.{rules}
 use Rattle.host.proofs.put_result.Goals as goal
 
 pub returns : goal.returns

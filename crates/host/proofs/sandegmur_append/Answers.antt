@@ -2,7 +2,6 @@ use mathlib.Core.Path.{refl}
 use Rattle.rules.specs.Refusals.{append_refusals}
 use Rattle.rules.proofs.Refusals.{every_call_answers}
 use Rattle.host.proofs.Numbers.{number_fits}
-use borrow.Author.Rules.{rules}
 use Rattle.host.proofs.sandegmur_append.Goals as goal
 
 pub overflow_cast-result : goal.overflow_cast-result

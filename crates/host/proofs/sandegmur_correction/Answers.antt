@@ -1,6 +1,5 @@
 use native.Mathlib.Omega.{arith}
-use Rattle.host.proofs.Correcting.{correction_small, not_corrected, corrected}
-use borrow.Author.Rules.{rules}
+use Rattle.host.proofs.Correcting.{correction_small, corrected}
 use Rattle.host.proofs.sandegmur_correction.Goals as goal
 
 pub overflow_cast-result : goal.overflow_cast-result

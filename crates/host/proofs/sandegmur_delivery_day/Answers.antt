@@ -1,6 +1,5 @@
 use native.Mathlib.Omega.{arith}
-use Rattle.host.proofs.Delivering.{refusal_small, not_delivered, delivered}
-use borrow.Author.Rules.{rules}
+use Rattle.host.proofs.Delivering.{refusal_small}
 use Rattle.host.proofs.sandegmur_delivery_day.Goals as goal
 
 pub overflow_cast-result : goal.overflow_cast-result

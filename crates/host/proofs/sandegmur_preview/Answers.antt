@@ -1,7 +1,5 @@
 use native.Mathlib.Omega.{arith}
-use Rattle.preview.proofs.Undoing.{can_undo}
 use Rattle.host.proofs.Previewing.{append_small, host_not_previewed, host_previewed}
-use borrow.Author.Rules.{rules}
 use Rattle.host.proofs.sandegmur_preview.Goals as goal
 
 pub overflow_cast-result : goal.overflow_cast-result

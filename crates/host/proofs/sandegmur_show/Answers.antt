@@ -1,5 +1,4 @@
 use Rattle.host.proofs.Shown.{shown_none, shown_some}
-use borrow.Author.Rules.{rules}
 use Rattle.host.proofs.sandegmur_show.Goals as goal
 
 pub returns-then-part-eq0 : goal.returns-then-part-eq0

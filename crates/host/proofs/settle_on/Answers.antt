@@ -1,13 +1,11 @@
 use Rattle.prepare.proofs.Laws.{ready, in_sheet, sheet_length}
 use Rattle.rules.specs.Settle.{settled}
 use mathlib.Core.Path.{sym}
-use Prim.Native.Nat.{ℕ, ◌/◌, ◌≤◌, min}
-use mathlib.Core.List.{List}
+use Prim.Native.Nat.{◌/◌, ◌≤◌, min}
 use native.Mathlib.Omega.{arith}
 use lib.ListN.{length}
 use Rattle.prepare.specs.Answers.{Stands}
 use Rattle.host.proofs.Settling.{refusal_small, unready, list_short, result_wrong, list_long, all_written}
-use borrow.Author.Rules.{rules}
 use Rattle.host.proofs.settle_on.Goals as goal
 use Rattle.host.proofs.settle_on.Goals.{In-Ready}
 

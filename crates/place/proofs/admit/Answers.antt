@@ -1,5 +1,4 @@
 use Rattle.place.proofs.Laws.{not_admitted, admitted_with}
-use borrow.Author.Rules.{rules}
 use Rattle.place.proofs.admit.Goals as goal
 
 pub returns-in-Refused : goal.returns-in-Refused

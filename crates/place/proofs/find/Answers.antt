@@ -2,7 +2,6 @@ use native.Mathlib.Omega.{arith}
 use Rattle.rules.proofs.Sound.{used_head}
 use Rattle.archive.proofs.Laws.{opened, unopened}
 use Rattle.place.proofs.Laws.{walked, unwalked, find_unopened, find_refused, find_under}
-use borrow.Author.Rules.{rules}
 use Rattle.place.proofs.find.Goals as goal
 
 pub returns-in_default : goal.returns-in_default

@@ -1,6 +1,5 @@
 use native.Mathlib.Omega.{arith}
 use Rattle.place.proofs.Laws.{walked, unwalked, under_refused, under_found}
-use borrow.Author.Rules.{rules}
 use Rattle.place.proofs.place_under.Goals as goal
 
 pub returns-in_default : goal.returns-in_default

@@ -6,6 +6,7 @@ use Rattle.points.proofs.Points.{stepped}
 use Rattle.points.proofs.Walks.{Kept}
 use Rattle.points.proofs.read_points.Given as goal
 
+-- the walk along the chain, and what it keeps
 abbrev pub invariant-loop-link : goal.invariant-loop-link
 invariant-loop-link l =
     Walking stepped l.archive l.used point_kind l.initial.last l.initial.link (walk no_points l.initial.powers) l.last l.link (walk l.read l.powers) × Kept l.initial.powers l.last (walk l.read l.powers)

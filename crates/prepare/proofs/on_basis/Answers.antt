@@ -4,7 +4,6 @@ use native.Mathlib.Omega.{arith}
 use Rattle.place.specs.Places.{meant}
 use Rattle.prepare.proofs.Bases.{not_based, standing_at, on_standing}
 use Rattle.prepare.proofs.Ready.{counted, walk_refused, stands}
-use borrow.Author.Rules.{rules}
 use Rattle.prepare.proofs.on_basis.Goals as goal
 
 pub denominator-d-requires : goal.denominator-d-requires

@@ -1,8 +1,5 @@
-use mathlib.Core.Path.{sym, ◌∙◌}
 use Rattle.place.proofs.Laws.{located, placed_refused}
 use Rattle.prepare.proofs.Bases.{no_place, lies_whole, at_whole}
-use borrow.Author.Tests.{not-true, not-false}
-use borrow.Author.Rules.{rules}
 use Rattle.prepare.proofs.prepare.Goals as goal
 
 pub returns-then-not-needs_curve : goal.returns-then-not-needs_curve

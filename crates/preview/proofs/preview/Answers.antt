@@ -1,5 +1,4 @@
-use Rattle.preview.proofs.Undoing.{can_undo, not_previewed, previewed}
-use borrow.Author.Rules.{rules}
+use Rattle.preview.proofs.Undoing.{not_previewed, previewed}
 use Rattle.preview.proofs.preview.Goals as goal
 
 pub returns-in-Refused : goal.returns-in-Refused

@@ -1,6 +1,5 @@
 use Rattle.rules.specs.Preview.{undone}
 use Rattle.rules.proofs.Write.{is_written}
-use borrow.Author.Rules.{rules}
 use Rattle.preview.proofs.undo.Goals as goal
 
 pub returns : goal.returns

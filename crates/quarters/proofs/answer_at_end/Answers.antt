@@ -1,8 +1,6 @@
 use mathlib.Core.Path.{sym, ◌∙◌}
-use borrow.Author.Tests.{not-true, not-false}
 use Rattle.terms.specs.Meanings.{meaning}
-use Rattle.quarters.proofs.Walks.{counted_from, end_uncounted, end_unreadable, end_late, end_given}
-use borrow.Author.Rules.{rules}
+use Rattle.quarters.proofs.Walks.{end_uncounted, end_unreadable, end_late, end_given}
 use Rattle.quarters.proofs.answer_at_end.Goals as goal
 
 pub returns-then-not-counted : goal.returns-then-not-counted

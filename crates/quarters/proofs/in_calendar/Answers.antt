@@ -1,6 +1,5 @@
 use Rattle.terms.specs.Meanings.{meaning}
 use Rattle.quarters.proofs.Walks.{dates_allowed_lem}
-use borrow.Author.Rules.{rules}
 use Rattle.quarters.proofs.in_calendar.Goals as goal
 
 pub returns : goal.returns

@@ -1,18 +1,8 @@
-use mathlib.Core.Path.{◌∙◌, ap}
-use mathlib.Core.List.{List, []}
-use mathlib.Core.Bool.{Bool, ◌&&◌}
-use Prim.Native.Nat.{ℕ, ◌-◌}
-use lib.Dec.{lit≤}
-use Rattle.rules.specs.Terms.{quarter_of}
-use Rattle.rules.specs.Reference as book
-use Rattle.rules.proofs.Parts.{start_fits, end_fits, end_within, start_end, part_size}
-use Rattle.rules.proofs.Chains.{record_part}
-use Rattle.chains.proofs.Laws.{Met, no_at, met, link_nearer}
+use mathlib.Core.List.{[]}
+use Prim.Native.Nat.{◌-◌}
 use Rattle.terms.specs.Meanings.{meaning}
 use Rattle.reference.specs.declared.Reference.TheVariants.{LastMeasured}
-use Rattle.exact.specs.Exacts.{quarter_answer}
-use Rattle.exact.proofs.Exacts.{read_from_lem}
-use Rattle.quarters.proofs.Walks.{state, Going, going_starts, going_counts, going_on, walks_refused, walks_ended}
+use Rattle.quarters.proofs.Walks.{state, Going}
 use Rattle.quarters.proofs.walk_bounded.Given as goal
 
 abbrev pub invariant-loop-link : goal.invariant-loop-link

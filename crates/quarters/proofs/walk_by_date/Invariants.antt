@@ -1,21 +1,10 @@
-use mathlib.Core.Path.{◌≡◌, sym, ◌∙◌, ap, subst}
-use mathlib.Core.List.{List, []}
-use mathlib.Core.Bool.{Bool, ◌&&◌}
-use Prim.Native.Nat.{ℕ, ◌+◌, ◌-◌}
-use lib.Dec.{lit≤}
-use Rattle.rules.specs.Numbers.{or_zero}
-use Rattle.rules.specs.Terms.{quarter_of}
-use Rattle.rules.specs.Reference as book
-use Rattle.rules.proofs.Parts.{start_fits, end_fits, end_within, start_end, part_size}
-use Rattle.rules.proofs.Chains.{record_part}
-use Rattle.chains.proofs.Laws.{Met, no_at, met, link_nearer}
+use mathlib.Core.Path.{◌≡◌}
+use mathlib.Core.List.{[]}
+use Prim.Native.Nat.{◌-◌}
 use Rattle.terms.specs.Meanings.{meaning}
-use Rattle.calendar.specs.declared.Clock.{Clock}
-use Rattle.calendar.specs.Clocks.{clock_of, clock_after, CanAdvance}
-use Rattle.calendar.proofs.Clocks.{clock_next}
+use Rattle.calendar.specs.Clocks.{clock_of}
 use Rattle.reference.specs.declared.Reference.TheVariants.{ByFactor}
-use Rattle.exact.specs.Exacts.{quarter_answer}
-use Rattle.quarters.proofs.Walks.{state, Going, going_starts, going_counts, going_few, going_on, walks_refused, walks_ended}
+use Rattle.quarters.proofs.Walks.{state, Going}
 use Rattle.quarters.proofs.walk_by_date.Given as goal
 
 abbrev pub invariant-loop-link : goal.invariant-loop-link

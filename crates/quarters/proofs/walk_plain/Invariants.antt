@@ -1,15 +1,6 @@
-use mathlib.Core.Path.{◌∙◌, ap}
-use mathlib.Core.List.{List}
-use mathlib.Core.Bool.{Bool, ◌&&◌}
-use Prim.Native.Nat.{ℕ, ◌-◌}
-use lib.Dec.{lit≤}
-use Rattle.rules.specs.Terms.{quarter_of}
-use Rattle.rules.proofs.Parts.{start_fits, end_fits, end_within, start_end, part_size}
-use Rattle.rules.proofs.Chains.{record_part}
-use Rattle.chains.proofs.Laws.{Met, no_at, met, link_nearer}
+use Prim.Native.Nat.{◌-◌}
 use Rattle.terms.specs.Meanings.{meaning}
-use Rattle.exact.specs.Exacts.{quarter_answer}
-use Rattle.quarters.proofs.Walks.{state, Going, going_starts, going_counts, going_on, walks_refused, walks_ended}
+use Rattle.quarters.proofs.Walks.{state, Going}
 use Rattle.quarters.proofs.walk_plain.Given as goal
 
 abbrev pub invariant-loop-link : goal.invariant-loop-link

@@ -1,9 +1,7 @@
-use Rattle.rules.specs.Terms.{is_power}
-use mathlib.Core.Path.{◌∙◌, ap, subst}
+use mathlib.Core.Path.{subst}
 use Rattle.record.specs.Powers.{PowerOf}
 use Rattle.units.proofs.Laws.{back}
 use Rattle.reference.proofs.Referred.{planned_referred}
-use borrow.Author.Rules.{rules}
 use Rattle.reference.proofs.as_planned.Goals as goal
 
 pub returns : goal.returns

@@ -2,7 +2,6 @@ use mathlib.Core.Path.{sym, ap₂, ◌∙◌}
 use lib.Signed.{le_z}
 use Rattle.rules.proofs.Ints.{smaller_yes, smaller_no}
 use Rattle.units.proofs.Laws.{back}
-use borrow.Author.Rules.{rules}
 use Rattle.reference.proofs.capped.Goals as goal
 
 pub returns-then-t-cap : goal.returns-then-t-cap

@@ -1,13 +1,10 @@
-use mathlib.Core.Path.{◌≡◌, ◌∙◌, ap, ap₂, subst}
+use mathlib.Core.Path.{◌≡◌, ap, subst}
 use mathlib.Core.List.{List, ◌∷◌, []}
 use Rattle.rules.specs.declared.Bounding.{Bounding}
 use Rattle.rules.specs.Terms.{Reading, reading_at, Quarter}
 use Rattle.rules.specs.October.{reference_bounds}
-use Rattle.record.specs.declared.Power.TheVariants as power
 use Rattle.record.specs.Powers.{SmallestOf}
-use Rattle.record.proofs.Readings.{smallest_alone, smallest_as, smallest_power}
-use Rattle.reference.proofs.Referred.{lowest_first, lowest_both}
-use borrow.Author.Rules.{rules}
+use Rattle.record.proofs.Readings.{smallest_power}
 use Rattle.reference.proofs.lowest.Goals as goal
 
 of-told : (q : Quarter) {b x : Bounding} → b ≡ x → reference_bounds b q ≡ reference_bounds x q

@@ -1,7 +1,6 @@
 use mathlib.Core.Path.{◌∙◌}
 use Rattle.terms.specs.Meanings.{meaning}
 use Rattle.reference.proofs.Manners.{own_month}
-use borrow.Author.Rules.{rules}
 use Rattle.reference.proofs.month_of.Goals as goal
 
 pub returns : goal.returns

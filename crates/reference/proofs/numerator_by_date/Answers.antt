@@ -3,7 +3,6 @@ use Rattle.rules.specs.Terms.{quarter_of}
 use Rattle.terms.specs.Meanings.{meaning}
 use Rattle.reference.proofs.Manners.{clock_month, clock_quarter, clock_month_near, clock_near}
 use Rattle.reference.proofs.Referred.{referred_held}
-use borrow.Author.Rules.{rules}
 use Rattle.reference.proofs.numerator_by_date.Goals as goal
 
 pub overflow_sub-clock : goal.overflow_sub-clock

@@ -2,11 +2,8 @@ use mathlib.Core.Path.{refl}
 use Rattle.rules.specs.Terms.{quarter_of}
 use Rattle.terms.specs.Meanings.{meaning}
 use Rattle.units.proofs.Laws.{back}
-use Rattle.reference.proofs.References.{bounded_told, held_told}
-use Rattle.reference.proofs.Manners.{own_undated}
 use Rattle.reference.proofs.Referred.{referred_told, referred_as, last_referred}
 use Rattle.reference.specs.declared.Numerator.TheVariants as over
-use borrow.Author.Rules.{rules}
 use Rattle.reference.proofs.numerator_of.Goals as goal
 
 pub returns-in-OnCurve : goal.returns-in-OnCurve

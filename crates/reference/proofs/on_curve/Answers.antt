@@ -9,11 +9,10 @@ use Rattle.rules.specs.Terms.{is_speed}
 use Rattle.rules.specs.Reference.{curve_power}
 use Rattle.units.proofs.Laws.{back}
 use Rattle.record.proofs.Powers.{out_of_range_lem, in_range}
-use Rattle.reference.proofs.Products.{times_fits, times_is}
+use Rattle.reference.proofs.Products.{times_is}
 use Rattle.reference.proofs.References.{up_to_small}
 use Rattle.reference.specs.declared.Numerator.TheVariants as over
 use Rattle.reference.proofs.Referred.{curve_referred, referred_as}
-use borrow.Author.Rules.{rules}
 use Rattle.reference.proofs.on_curve.Goals as goal
 
 pub returns-then-not-is_speed : goal.returns-then-not-is_speed

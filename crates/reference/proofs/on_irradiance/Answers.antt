@@ -1,5 +1,4 @@
 use mathlib.Core.Path.{refl, sym, ap, ◌∙◌}
-use Prim.Native.Nat.{ℕ}
 use native.Mathlib.Omega.{arith}
 use Rattle.std.proofs.lemmas.Bool.{not_from_true, not_from_false}
 use lib.IntN.{pos}
@@ -10,9 +9,8 @@ use Rattle.rules.specs.Archive.{twos, field_at}
 use Rattle.rules.specs.Terms.{is_irradiance}
 use Rattle.units.proofs.Laws.{back}
 use Rattle.record.proofs.Powers.{out_of_range_lem, in_range}
-use Rattle.reference.proofs.Products.{times_fits, times_is}
+use Rattle.reference.proofs.Products.{times_is}
 use Rattle.reference.proofs.Referred.{irradiance_referred}
-use borrow.Author.Rules.{rules}
 use Rattle.reference.proofs.on_irradiance.Goals as goal
 
 pub returns-then-not-is_irradiance : goal.returns-then-not-is_irradiance

@@ -1,7 +1,6 @@
 use mathlib.Core.Path.{◌∙◌}
 use Rattle.terms.specs.Meanings.{meaning}
 use Rattle.reference.proofs.Manners.{own_quarter}
-use borrow.Author.Rules.{rules}
 use Rattle.reference.proofs.quarter_of_day_of.Goals as goal
 
 pub returns : goal.returns

@@ -2,7 +2,6 @@ use mathlib.Core.Path.{sym, ap}
 use Rattle.rules.specs.Output.{Step}
 use Rattle.report.specs.Cursors.{moved}
 use Rattle.report.proofs.Laws.{step_no_plant, step_bad_link, step_wrong_kind, step_no_measure, step_other}
-use borrow.Author.Rules.{rules}
 use Rattle.report.proofs.after_refusal.Goals as goal
 
 pub returns-then-number-eq-NO_PLANT : goal.returns-then-number-eq-NO_PLANT

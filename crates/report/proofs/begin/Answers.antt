@@ -2,7 +2,6 @@ use native.Mathlib.Omega.{arith}
 use Rattle.rules.proofs.Output.{output_long, output_refused}
 use Rattle.archive.proofs.Laws.{opened, unopened}
 use Rattle.report.proofs.Laws.{begins_refused, begins_first}
-use borrow.Author.Rules.{rules}
 use Rattle.report.proofs.begin.Goals as goal
 
 pub returns-then-input-gt65536 : goal.returns-then-input-gt65536

@@ -1,6 +1,5 @@
 use native.Mathlib.Omega.{arith}
 use Rattle.report.proofs.Laws.{writes_none, no_line_4, no_line_5, writes_line}
-use borrow.Author.Rules.{rules}
 use Rattle.report.proofs.put_refused.Goals as goal
 
 pub returns-then-number-eq-NO_PLANT : goal.returns-then-number-eq-NO_PLANT

@@ -1,7 +1,6 @@
 use native.Mathlib.Omega.{arith}
 use mathlib.Core.Path.{refl}
 use Rattle.report.proofs.Laws.{writes_head}
-use borrow.Author.Rules.{rules}
 use Rattle.report.proofs.refused_head.Goals as goal
 
 pub returns : goal.returns

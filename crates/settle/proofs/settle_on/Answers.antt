@@ -1,13 +1,11 @@
 use mathlib.Core.Path.{refl, sym}
-use mathlib.Core.List.{List}
-use Prim.Native.Nat.{ℕ, ◌≤◌, min}
+use Prim.Native.Nat.{◌≤◌, min}
 use native.Mathlib.Omega.{arith}
 use lib.ListN.{length}
 use Rattle.rules.specs.Settle.{settled}
 use Rattle.prepare.specs.Answers.{Stands}
 use Rattle.prepare.proofs.Laws.{ready, in_sheet, sheet_length}
 use Rattle.settle.proofs.Laws.{list_long, settles_unready, settles_short, settles_given}
-use borrow.Author.Rules.{rules}
 use Rattle.settle.proofs.settle_on.Goals as goal
 use Rattle.settle.proofs.settle_on.Goals.{In-Ready}
 
