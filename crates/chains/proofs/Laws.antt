@@ -13,7 +13,7 @@ use Rattle.rules.proofs.Walks.{chain_on, chain_refused, place_last, place_on, pl
 use Rattle.chains.specs.declared.Link.{Link}
 use Rattle.chains.specs.declared.Link.TheVariants as link
 use Rattle.chains.specs.declared.Reach.TheVariants as reach
-use Rattle.chains.specs.declared.ChainEnd.TheVariants as chainEnd
+use Rattle.chains.specs.declared.ChainEnd.TheVariants as chain_end
 use Rattle.chains.specs.Answers.{link_answer, reach_answer, end_answer, refusal_of}
 
 -- ---- the answer to a link
@@ -159,15 +159,15 @@ gathered_stand place links (e ∷ es) =
     gathered_stand (32 * e.number + 4) (links + 1) es ∙ rw s
 
 module _ (first : ℕ) {o p : Outcome (List Entry)} (e : o ≡ p) where
-  pub end_reached : {s : Stand} → gathered_from onward (stand first 0) p ≡ given s → chainEnd.At s.place s.links ≡ end_answer first o
+  pub end_reached : {s : Stand} → gathered_from onward (stand first 0) p ≡ given s → chain_end.At s.place s.links ≡ end_answer first o
   end_reached {s} f = rw e (go p f)
     where
-      go : (p : Outcome (List Entry)) → gathered_from onward (stand first 0) p ≡ given s → chainEnd.At s.place s.links ≡ end_answer first p
+      go : (p : Outcome (List Entry)) → gathered_from onward (stand first 0) p ≡ given s → chain_end.At s.place s.links ≡ end_answer first p
       go (refused n) f = let z : ◌≡◌ {A = ℕ} 0 1 = cc in absurd (omega arith)
       go (given es) f =
           let g : s ≡ gathered onward (stand first 0) es = cc in
           let n : 0 + length es ≡ length es = omega arith in
-          ap (λ (s : Stand). chainEnd.At s.place s.links) (g ∙ gathered_stand first 0 es ∙ rw n)
+          ap (λ (s : Stand). chain_end.At s.place s.links) (g ∙ gathered_stand first 0 es ∙ rw n)
 
-  pub end_refused : {n r : ℕ} → p ≡ refused n → r ≡ n → chainEnd.Refused r ≡ end_answer first o
+  pub end_refused : {n r : ℕ} → p ≡ refused n → r ≡ n → chain_end.Refused r ≡ end_answer first o
   end_refused f g = rw (e, f, g)

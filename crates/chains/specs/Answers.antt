@@ -8,7 +8,7 @@ use Rattle.chains.specs.declared.Link.TheVariants as link
 use Rattle.chains.specs.declared.Reach.{Reach}
 use Rattle.chains.specs.declared.Reach.TheVariants as reach
 use Rattle.chains.specs.declared.ChainEnd.{ChainEnd}
-use Rattle.chains.specs.declared.ChainEnd.TheVariants as chainEnd
+use Rattle.chains.specs.declared.ChainEnd.TheVariants as chain_end
 
 -- zero ends the chain; any other link leads to a record, by its number, or is refused with 2 or 3
 abbrev pub link_answer : ℕ → Outcome Entry → Link
@@ -24,8 +24,8 @@ reach_answer place (given e) = reach.At e.number place
 
 -- the place of a chain's last link, from the place of its first one, and the links followed, one to each record; or 2 or 3
 abbrev pub end_answer : ℕ → Outcome (List Entry) → ChainEnd
-end_answer place (refused n) = chainEnd.Refused n
-end_answer place (given es) = chainEnd.At (last_place place es) (length es)
+end_answer place (refused n) = chain_end.Refused n
+end_answer place (given es) = chain_end.At (last_place place es) (length es)
 
 -- the number with which a walk is refused by an answer that leads to no record; `missing` if the chain has ended
 abbrev pub refusal_of : Link → ℕ → ℕ

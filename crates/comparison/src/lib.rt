@@ -8,8 +8,8 @@ ghost use Rattle.rules.specs.Terms.{Point, before_of};
 ghost use Rattle.curve.specs.Tables.{Tabulates};
 ghost use Rattle.place.specs.Places.{meant, Lies};
 ghost use Rattle.comparison.specs.Sums.{Choice, first_four, first_one, every_one, Means, Ready, FourReady, AllReady, MarkedReady};
-ghost use Rattle.comparison.specs.Sums.{plus as plusOf, taken, added_answer, Room, RoomFor, RoomAdded};
-ghost use Rattle.comparison.specs.Walks.{RoomIn, StepReady, Stepped, passed as passedOf, gathered_of, gathered_answer, RoomGathered};
+ghost use Rattle.comparison.specs.Sums.{plus as plus_of, taken, added_answer, Room, RoomFor, RoomAdded};
+ghost use Rattle.comparison.specs.Walks.{RoomIn, StepReady, Stepped, passed as passed_of, gathered_of, gathered_answer, RoomGathered};
 
 use chains::Link;
 use curve::Curve;
@@ -74,7 +74,7 @@ fn weather_of(r: &[u8]) -> u64
 // One more used.
 fn plus(sums: Sums, a: u64, b: u64) -> Sums
     requires { RoomFor sums a b }
-    ensures { result ≡ plusOf sums a b }
+    ensures { result ≡ plus_of sums a b }
 {
     Sums {
         used: sums.used + 1,
@@ -195,7 +195,7 @@ fn step(purpose: Purpose, powers: &[u32], walk: Walk, r: &[u8]) -> Walk
 // After the walk: 8, then 9.
 fn passed(walk: Walk) -> Gathered
     requires { RoomIn walk }
-    ensures { (result ≡ gathered_answer (passedOf walk)) × RoomGathered result }
+    ensures { (result ≡ gathered_answer (passed_of walk)) × RoomGathered result }
 {
     if 96 < walk.count {
         return Gathered::Refused(refusal::BAD_COUNT);

@@ -7,7 +7,7 @@ ghost use Rattle.rules.specs.Numbers.{or_zero};
 ghost use Rattle.rules.specs.Terms.{Quarter, quarter_of};
 ghost use Rattle.rules.specs.October.{bounding_of};
 ghost use Rattle.rules.specs.Reference as book;
-ghost use Rattle.rules.specs.Reference.{magnitude as magnitudeOf};
+ghost use Rattle.rules.specs.Reference.{magnitude as magnitude_of};
 ghost use Rattle.terms.specs.Meanings.{meaning};
 ghost use Rattle.reference.specs.References.{Means};
 ghost use Rattle.reference.specs.Manners.{manner_of, Shows};
@@ -29,7 +29,7 @@ fn or_zero(n: i64) -> u64
 // Of (T - L) / 4, in the positive direction of (L - T) / 4, where T is t / d; or 0.
 fn magnitude(direction: Direction, d: u64, t: i64, l: Watt) -> u64
     requires { Room d t l.0 }
-    ensures { result ≡ magnitudeOf direction d t l.0 }
+    ensures { result ≡ magnitude_of direction d t l.0 }
 {
     let limit = l.0 * d as i64;
     match direction {

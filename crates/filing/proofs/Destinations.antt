@@ -13,7 +13,7 @@ use Rattle.rules.proofs.Sound.{used_head, whole_length}
 use Rattle.rules.proofs.Append.{allowed_new}
 use Rattle.rules.proofs.AppendSteps.{used_within, offset_within, append_bad_chain, append_full, append_files, last_link}
 use Rattle.chains.specs.declared.ChainEnd.{ChainEnd}
-use Rattle.chains.specs.declared.ChainEnd.TheVariants as chainEnd
+use Rattle.chains.specs.declared.ChainEnd.TheVariants as chain_end
 use Rattle.chains.specs.Answers.{end_answer}
 use Rattle.chains.specs.Held.{LinkHeld}
 use Rattle.filing.specs.declared.Destination.TheVariants as destination
@@ -24,8 +24,8 @@ use Rattle.filing.specs.Destinations.{offset_outcome, EndsAt, Goes}
 
 -- a chain refused, or its records, with the place of the last link
 abbrev Ended : ℕ → Outcome (List Entry) → ChainEnd → Type 0
-Ended first o (chainEnd.Refused n) = o ≡ refused n
-Ended first o (chainEnd.At last count) = (es : List Entry) × (o ≡ given es) × (last ≡ last_place first es)
+Ended first o (chain_end.Refused n) = o ≡ refused n
+Ended first o (chain_end.At last count) = (es : List Entry) × (o ≡ given es) × (last ≡ last_place first es)
 
 chain_says : (x : ChainEnd) (first : ℕ) (o : Outcome (List Entry)) → x ≡ end_answer first o → Ended first o x
 chain_says x first o e = subst (Ended first o) (sym e) (go o)
@@ -57,10 +57,10 @@ module _ {archive : List ℕ} {owner : ℕ} {new : List ℕ} {used kind offset :
     ended : {y : ChainEnd} → x ≡ y → Ended (32 * owner + offset) (chain archive used kind owner (link_at archive (32 * owner + offset))) y
     ended e = subst (Ended (32 * owner + offset) (chain archive used kind owner (link_at archive (32 * owner + offset)))) e (chain_says x (32 * owner + offset) _ walked)
 
-    pub chain_refused : {n : ℕ} → x ≡ chainEnd.Refused n → Goes archive owner new (destination.Refused n)
+    pub chain_refused : {n : ℕ} → x ≡ chain_end.Refused n → Goes archive owner new (destination.Refused n)
     chain_refused e = append_bad_chain archive owner new used t.used_is t.allowed kind t.kind_is offset t.offset_is _ (ended e)
 
-    module _ {last count : ℕ} (e : x ≡ chainEnd.At last count) where
+    module _ {last count : ℕ} (e : x ≡ chain_end.At last count) where
       pub chain_full : length archive / 32 ≤ used → Goes archive owner new (destination.Refused archive_full)
       chain_full h =
           let w = ended e in

@@ -37,10 +37,10 @@ module _ (archive : List ℕ) (owner : ℕ) (new appended old : List ℕ) (x : D
           leaves_archive = not_appended.1;
         }
 
-  pub host_previewed : (p k : ℕ) (list laterList result laterResult : List ℕ) (used place : ℕ) → x ≡ destination.At used place → (number : ℕ)
-      → HostSettles appended p k list laterList result laterResult number → (laterArchive : List ℕ) → laterArchive ≡ undone appended used place old
-      → HostPreviews archive owner new p k list laterList result laterResult laterArchive number
-  host_previewed p k list laterList result laterResult used place e number s laterArchive is =
+  pub host_previewed : (p k : ℕ) (list later_list result later_result : List ℕ) (used place : ℕ) → x ≡ destination.At used place → (number : ℕ)
+      → HostSettles appended p k list later_list result later_result number → (later_archive : List ℕ) → later_archive ≡ undone appended used place old
+      → HostPreviews archive owner new p k list later_list result later_result later_archive number
+  host_previewed p k list later_list result later_result used place e number s later_archive is =
       let r = host_preview_settled archive owner new p k (length list) (length result) appended (subst (AppendsForNow archive owner new appended old) e a).0 in
       record {
         answers = s.answers ∙ ap number_of (sym r);

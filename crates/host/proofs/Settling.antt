@@ -26,10 +26,10 @@ use Rattle.host.proofs.Numbers.{number_small}
 
 module _ (archive : List ℕ) (p k : ℕ) (list result : List ℕ) where
   -- an outcome of the entry known whole
-  by_outcome : (o : Outcome Settlement) (laterList laterResult : List ℕ) (number : ℕ) → host_settle archive p k (length list) (length result) ≡ o
-      → number ≡ number_of o → laterList ≡ host_list_after o list → laterResult ≡ host_result_after o result
-      → HostSettles archive p k list laterList result laterResult number
-  by_outcome o laterList laterResult number e f g h = record {
+  by_outcome : (o : Outcome Settlement) (later_list later_result : List ℕ) (number : ℕ) → host_settle archive p k (length list) (length result) ≡ o
+      → number ≡ number_of o → later_list ≡ host_list_after o list → later_result ≡ host_result_after o result
+      → HostSettles archive p k list later_list result later_result number
+  by_outcome o later_list later_result number e f g h = record {
     answers = f ∙ ap number_of (sym e);
     leaves_list = g ∙ ap (λ (x : Outcome Settlement). host_list_after x list) (sym e);
     leaves_result = h ∙ ap (λ (x : Outcome Settlement). host_result_after x result) (sym e);
@@ -61,21 +61,21 @@ module _ (archive : List ℕ) (p k : ℕ) (list result : List ℕ) where
       list_long = omega (arith, sheet_length s room h)
 
       -- the amounts and the three results written
-      pub all_written : length result ≡ 24 → (laterList laterResult : List ℕ) (total bitsOfTotal : ℕ)
-          → laterList ≡ encoded (amounts_of m.direction m.denominator (take m.count sheet)) ++ drop (8 * length (take m.count sheet)) list
+      pub all_written : length result ≡ 24 → (later_list later_result : List ℕ) (total bits_of_total : ℕ)
+          → later_list ≡ encoded (amounts_of m.direction m.denominator (take m.count sheet)) ++ drop (8 * length (take m.count sheet)) list
           → signed m.direction total ≡ sumℤ (amounts_of m.direction m.denominator (take m.count sheet))
-          → bitsOfTotal ≡ bits (signed m.direction total)
-          → laterResult ≡ double_word m.count ++ (double_word bitsOfTotal ++ double_word m.links)
-          → HostSettles archive p k list laterList result laterResult 0
+          → bits_of_total ≡ bits (signed m.direction total)
+          → later_result ≡ double_word m.count ++ (double_word bits_of_total ++ double_word m.links)
+          → HostSettles archive p k list later_list result later_result 0
       unfolding ◌>>◌ require encoded
-      all_written n laterList laterResult total bitsOfTotal l t b r =
-          by_outcome (given s.settlement) laterList laterResult 0
+      all_written n later_list later_result total bits_of_total l t b r =
+          by_outcome (given s.settlement) later_list later_result 0
           (tested true (rw (le-leb (count_of s.settlement) (length list / 8) (omega (arith, s.counted)), n)))
           refl
           (l ∙ rw (sheet_length s room h, s.counted, s.amounts_are (in_sheet s room h)))
           (r ∙ results)
         where
-          results : double_word m.count ++ (double_word bitsOfTotal ++ double_word m.links)
+          results : double_word m.count ++ (double_word bits_of_total ++ double_word m.links)
               ≡ encoded (pos (count_of s.settlement) ∷ sumℤ s.settlement.amounts ∷ pos s.settlement.links ∷ [])
           results = rw (b, t, s.counted, s.amounts_are (in_sheet s room h), s.links_are, append-nil)
 

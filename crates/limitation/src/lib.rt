@@ -6,7 +6,7 @@ ghost use Rattle.std.specs.Int.Signed.{mag};
 ghost use Rattle.rules.specs.Archive.{field_at};
 ghost use Rattle.rules.specs.Terms.{reading_at, Quarter};
 ghost use Rattle.rules.specs.October.{limitation_bounds};
-ghost use Rattle.rules.specs.Reference.{limitation as limitationOf};
+ghost use Rattle.rules.specs.Reference.{limitation as limitation_of};
 ghost use Rattle.record.specs.Powers.{SmallestOf};
 ghost use Rattle.terms.specs.Meanings.{meaning};
 ghost use Rattle.limitation.specs.Limits.{LimitedTo};
@@ -18,7 +18,7 @@ use units::Watt;
 
 // From measured power and sent limit.
 fn limitation(direction: Direction, execution: Execution, measured: Watt, limit: Watt) -> Watt
-    ensures { result.0 ≡ limitationOf direction execution measured.0 limit.0 }
+    ensures { result.0 ≡ limitation_of direction execution measured.0 limit.0 }
 {
     match execution {
         Execution::Requested => match direction {

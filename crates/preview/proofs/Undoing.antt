@@ -68,9 +68,9 @@ module _ (archive : List ℕ) (owner : ℕ) (new appended old : List ℕ) (x : D
       let r = preview_refused archive owner new p k (length list) n q.0 in
       record { answers = ap answer_of (sym r); leaves_list = ap (λ (o : Outcome Settlement). list_after o list) (sym r); leaves_archive = q.1 }
 
-  pub previewed : (p k : ℕ) (list laterList : List ℤ) {used place : ℕ} → x ≡ destination.At used place → {answer : Answer} → Settles appended p k list laterList answer
-      → {later : List ℕ} → later ≡ undone appended used place old → Previews archive owner new p k list laterList later answer
-  previewed p k list laterList e s is =
+  pub previewed : (p k : ℕ) (list later_list : List ℤ) {used place : ℕ} → x ≡ destination.At used place → {answer : Answer} → Settles appended p k list later_list answer
+      → {later : List ℕ} → later ≡ undone appended used place old → Previews archive owner new p k list later_list later answer
+  previewed p k list later_list e s is =
       let q = subst (AppendsForNow archive owner new appended old) e a in
       let r = preview_settled archive owner new p k (length list) appended q.0 in
       record {

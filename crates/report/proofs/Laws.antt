@@ -15,7 +15,7 @@ use Rattle.rules.specs.Outcome.{Outcome, refused, given}
 use Rattle.rules.specs.Refusals.{not_archive, bad_link, wrong_kind, no_plant, no_measure}
 use Rattle.rules.specs.Archive.{used_of}
 use Rattle.rules.specs.Settle.{Settlement, count_of, total_of, settled}
-use Rattle.rules.specs.Output.{Line, measure_line, quarter_line, refusal_line, lines_of, Step, nextMeasure, nextPlant, stop, step_after, go_on, lines_from, head_refused, output, text_of, text_of_all}
+use Rattle.rules.specs.Output.{Line, measure_line, quarter_line, refusal_line, lines_of, Step, next_measure, next_plant, stop, step_after, go_on, lines_from, head_refused, output, text_of, text_of_all}
 use Rattle.rules.proofs.Output.{Within, step_within, lines_are, lines_given, text_append, text_cons, text_one, map_from_drop, output_given}
 use Rattle.rules.proofs.Writes.{wrote_none}
 use Rattle.rules.proofs.AppendSteps.{used_within}
@@ -109,10 +109,10 @@ module _ (n : ℕ) where
   pub step_wrong_kind : n ≡ wrong_kind → step_after (refused n) ≡ stop
   step_wrong_kind e = rw e
 
-  pub step_no_measure : n ≡ no_measure → step_after (refused n) ≡ nextPlant
+  pub step_no_measure : n ≡ no_measure → step_after (refused n) ≡ next_plant
   step_no_measure e = rw e
 
-  pub step_other : (n ≡ no_plant → ⊥) → (n ≡ bad_link → ⊥) → (n ≡ wrong_kind → ⊥) → (n ≡ no_measure → ⊥) → step_after (refused n) ≡ nextMeasure
+  pub step_other : (n ≡ no_plant → ⊥) → (n ≡ bad_link → ⊥) → (n ≡ wrong_kind → ⊥) → (n ≡ no_measure → ⊥) → step_after (refused n) ≡ next_measure
   step_other four two three five = rw (ne_eqb n no_plant four, ne_eqb n bad_link two, ne_eqb n wrong_kind three, ne_eqb n no_measure five)
 
   module _ (p k : ℕ) where
@@ -192,8 +192,8 @@ module _ (archive : List ℕ) (c : Cursor) (list : List ℤ) (f : Fits archive c
 
   rest_moved : (list' : List ℤ) (step : Step) (e : ℕ) → rest archive (moved step c e) list' ≡ go_on step (λ p' k'. lines_from c.used archive p' k') c.p c.k
   unfolding rest moved
-  rest_moved list' nextMeasure e = rw d
-  rest_moved list' nextPlant e = rw d
+  rest_moved list' next_measure e = rw d
+  rest_moved list' next_plant e = rw d
   rest_moved list' stop e = refl
 
   pub next_within : Within c.used c.p c.k (step_after (settled archive c.p c.k))
@@ -201,22 +201,22 @@ module _ (archive : List ℕ) (c : Cursor) (list : List ℤ) (f : Fits archive c
 
   fits_moved : (step : Step) (e : ℕ) → Within c.used c.p c.k step → Fits archive (moved step c e) list
   unfolding moved
-  fits_moved nextMeasure e h = record { head = f.head; low = f.low; size = f.size; placed = omega arith; counted = omega arith; plant_low = f.plant_low; measure_low = omega arith }
-  fits_moved nextPlant e h = record { head = f.head; low = f.low; size = f.size; placed = omega arith; counted = omega arith; plant_low = omega arith; measure_low = omega arith }
+  fits_moved next_measure e h = record { head = f.head; low = f.low; size = f.size; placed = omega arith; counted = omega arith; plant_low = f.plant_low; measure_low = omega arith }
+  fits_moved next_plant e h = record { head = f.head; low = f.low; size = f.size; placed = omega arith; counted = omega arith; plant_low = omega arith; measure_low = omega arith }
   fits_moved stop e h = record { head = λ e. f.head d; low = f.low; size = f.size; placed = omega arith; counted = omega arith; plant_low = f.plant_low; measure_low = f.measure_low }
 
   steps_moved : (step : Step) (e : ℕ) → Within c.used c.p c.k step → steps (moved step c e) < steps c
   unfolding moved steps
-  steps_moved nextMeasure e h = rw d (omega (arith, f.measure_low))
-  steps_moved nextPlant e h =
+  steps_moved next_measure e h = rw d (omega (arith, f.measure_low))
+  steps_moved next_plant e h =
       let below : suc (c.used + 1 - (c.p + 1)) ≤ c.used + 1 - c.p = omega arith in
       rw d (omega (arith, mul-le-mul_right (c.used + 2) below))
   steps_moved stop e h = rw d (omega arith)
 
   end_moved : (step : Step) (e : ℕ) → (moved step c e).end ≡ e
   unfolding moved
-  end_moved nextMeasure e = refl
-  end_moved nextPlant e = refl
+  end_moved next_measure e = refl
+  end_moved next_plant e = refl
   end_moved stop e = refl
 
   module _ (out out' : List ℕ) (e : ℕ) (room : c.end ≤ length out) (b : e ≤ c.end + 108) where
@@ -252,7 +252,7 @@ module _ (archive : List ℕ) (c : Cursor) (list : List ℤ) (f : Fits archive c
       unfolding rest
       rest_given = rest_measure ∙ lines_given archive c.used (f.head d) c.p c.k s g ∙ sym (rw (i, j, l, amounts_are, d))
 
-      same_steps' : steps (settled_at c count e) ≡ steps (moved nextMeasure c e)
+      same_steps' : steps (settled_at c count e) ≡ steps (moved next_measure c e)
       unfolding steps moved
       same_steps' = refl
 
@@ -275,7 +275,7 @@ module _ (archive : List ℕ) (c : Cursor) (list : List ℤ) (f : Fits archive c
               measure_low = omega arith;
             };
             within = b;
-            onward = omega (arith, w.ends, steps_moved nextMeasure e h, same_steps');
+            onward = omega (arith, w.ends, steps_moved next_measure e h, same_steps');
           })
 
 -- ---- parts of the output

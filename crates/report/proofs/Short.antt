@@ -12,7 +12,7 @@ use Rattle.rules.specs.Outcome.{Outcome, refused, given}
 use Rattle.rules.specs.Refusals.{no_plant, no_measure}
 use Rattle.rules.specs.Archive.{used_of}
 use Rattle.rules.specs.Settle.{Settlement, count_of, settled}
-use Rattle.rules.specs.Output.{Line, measure_line, quarter_line, refusal_line, lines_of, Step, nextMeasure, nextPlant, stop, step_after, go_on, lines_in, lines_from, head_refused, lines_by, output, decimal, signed_decimal, spaced, text_of, text_of_all}
+use Rattle.rules.specs.Output.{Line, measure_line, quarter_line, refusal_line, lines_of, Step, next_measure, next_plant, stop, step_after, go_on, lines_in, lines_from, head_refused, lines_by, output, decimal, signed_decimal, spaced, text_of, text_of_all}
 use Rattle.rules.proofs.Lists.{map_from_length}
 use Rattle.rules.proofs.Output.{decimal_length}
 use Rattle.rules.proofs.AppendSteps.{used_within}
@@ -84,8 +84,8 @@ steps_length (suc steps) archive p k =
   where
     go : (s : Step) → ((p' k' : ℕ) → length (lines_in steps archive p' k') ≤ steps * 2977)
         → length (go_on s (λ p' k'. lines_in steps archive p' k') p k) ≤ steps * 2977
-    go nextMeasure later = later p (k + 1)
-    go nextPlant later = later (p + 1) 1
+    go next_measure later = later p (k + 1)
+    go next_plant later = later (p + 1) 1
     go stop later = omega arith
 
 from_length : (used : ℕ) (archive : List ℕ) (p k : ℕ) → used ≤ 65535 → length (lines_from used archive p k) ≤ 65536 * 65536 * 2977

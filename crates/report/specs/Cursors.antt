@@ -3,7 +3,7 @@ use Rattle.std.specs.Prelude.{ℕ, suc, ◌+◌, ◌*◌, ◌-◌, ◌≤◌, �
 use Rattle.rules.specs.Outcome.{given}
 use Rattle.rules.specs.Numbers.{map_from}
 use Rattle.rules.specs.Archive.{used_of}
-use Rattle.rules.specs.Output.{Line, quarter_line, Step, nextMeasure, nextPlant, stop, lines_from, head_refused, output, text_of_all}
+use Rattle.rules.specs.Output.{Line, quarter_line, Step, next_measure, next_plant, stop, lines_from, head_refused, output, text_of_all}
 use Rattle.text.specs.Writes.{Writes}
 use Rattle.report.specs.declared.Cursor.{Cursor}
 
@@ -29,8 +29,8 @@ quarter_at c end = record { used = c.used; p = c.p; k = c.k; place = c.place + 1
 
 -- where a step of 01's order leads after a refusal
 unfoldable pub moved : Step → Cursor → ℕ → Cursor
-moved nextMeasure c end = settled_at c 0 end
-moved nextPlant c end = record { used = c.used; p = c.p + 1; k = 1; place = 0; count = 0; done = c.done; end = end }
+moved next_measure c end = settled_at c 0 end
+moved next_plant c end = record { used = c.used; p = c.p + 1; k = 1; place = 0; count = 0; done = c.done; end = end }
 moved stop c end = record { used = c.used; p = c.p; k = c.k; place = 0; count = 0; done = true; end = end }
 
 -- the places that steps can lead to fall with every step

@@ -9,7 +9,7 @@ use Rattle.rules.specs.Settle.{settled, settle, count_of}
 use Rattle.rules.specs.Host.{host_settle}
 use Rattle.rules.proofs.Inversion.{bind_same}
 
-pub host_settles_alike : (archive : List ℕ) (p k listBytes : ℕ) → host_settle archive p k listBytes 24 ≡ settle archive p k (listBytes / 8)
+pub host_settles_alike : (archive : List ℕ) (p k list_bytes : ℕ) → host_settle archive p k list_bytes 24 ≡ settle archive p k (list_bytes / 8)
 unfolding host_settle settle
-host_settles_alike archive p k listBytes =
-    bind_same (settled archive p k) _ _ (λ s e. ap (λ (t : Bool). require t 13 >> given s) (and-true (leb (count_of s) (listBytes / 8))))
+host_settles_alike archive p k list_bytes =
+    bind_same (settled archive p k) _ _ (λ s e. ap (λ (t : Bool). require t 13 >> given s) (and-true (leb (count_of s) (list_bytes / 8))))

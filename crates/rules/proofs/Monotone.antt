@@ -10,7 +10,7 @@ use lib.ListN.{take}
 use Rattle.rules.specs.Numbers.{sum, sumℤ, or_zero}
 use Rattle.rules.specs.Terms.{Direction, positive, negative, Execution, requested, tolerated, fixed, Terms, Quarter}
 use Rattle.rules.specs.Reference.{limitation, curve_power, plant_factor, Reference, on_curve, last_measured, on_irradiance, by_factor, as_planned, denominator, numerator, magnitude, limit_of, reference_of, exact_of}
-use Rattle.rules.specs.October.{Bounding, unbounded, referenceByBoth, referenceByNonavailability, limitationByNonavailability, bounding_of, reference_bounds, limitation_bounds}
+use Rattle.rules.specs.October.{Bounding, unbounded, reference_by_both, reference_by_nonavailability, limitation_by_nonavailability, bounding_of, reference_bounds, limitation_bounds}
 use Rattle.rules.specs.Numbers.{smaller}
 use Rattle.rules.specs.Booking.{signed, booked_from, amounts_of}
 use Rattle.rules.proofs.Ints.{parts_le, neg_mono, times_mono, minus_mono, minus_anti, smaller_mono, larger_mono}
@@ -60,15 +60,15 @@ magnitude_falls positive d t h = minus_mono t (times_mono d h)
 
 reference_bounds_same : (b : Bounding) {q q' : Quarter} → Higher q q' → reference_bounds b q ≡ reference_bounds b q'
 reference_bounds_same unbounded h = refl
-reference_bounds_same referenceByBoth h = rw (h.nonavailability, h.market_adjustment)
-reference_bounds_same referenceByNonavailability h = rw h.nonavailability
-reference_bounds_same limitationByNonavailability h = refl
+reference_bounds_same reference_by_both h = rw (h.nonavailability, h.market_adjustment)
+reference_bounds_same reference_by_nonavailability h = rw h.nonavailability
+reference_bounds_same limitation_by_nonavailability h = refl
 
 limitation_bounds_same : (b : Bounding) {q q' : Quarter} → Higher q q' → limitation_bounds b q ≡ limitation_bounds b q'
 limitation_bounds_same unbounded h = refl
-limitation_bounds_same referenceByBoth h = refl
-limitation_bounds_same referenceByNonavailability h = refl
-limitation_bounds_same limitationByNonavailability h = rw h.nonavailability
+limitation_bounds_same reference_by_both h = refl
+limitation_bounds_same reference_by_nonavailability h = refl
+limitation_bounds_same limitation_by_nonavailability h = rw h.nonavailability
 
 -- T reads neither measured power nor limit
 pub reference_same : (terms : Terms) (r : Reference) {q q' : Quarter} → Higher q q' → reference_of terms r q ≡ reference_of terms r q'

@@ -15,7 +15,7 @@ use Rattle.rules.specs.Refusals.{no_plant}
 use Rattle.rules.specs.Numbers.{map_from}
 use Rattle.rules.specs.Archive.{byte_at, used_of}
 use Rattle.rules.specs.Settle.{Settlement, count_of, total_of, settled}
-use Rattle.rules.specs.Output.{Line, measure_line, quarter_line, lines_of, Step, nextMeasure, nextPlant, stop, step_after, go_on, lines_in, lines_from}
+use Rattle.rules.specs.Output.{Line, measure_line, quarter_line, lines_of, Step, next_measure, next_plant, stop, step_after, go_on, lines_in, lines_from}
 use Rattle.rules.specs.Output.{head_refused, output, digits_in, decimal, text_of, text_of_all}
 use Rattle.rules.proofs.Inversion.{All, none, more}
 use Rattle.rules.proofs.PlacesOnChains.{settled_answers}
@@ -24,13 +24,13 @@ use Rattle.rules.proofs.PlacesOnChains.{settled_answers}
 
 -- the places where a step is taken: the next measure follows a measure that is there, the next plant a plant that is there
 abbrev pub Within : ℕ → ℕ → ℕ → Step → Type 0
-Within used p k nextMeasure = p + k < used
-Within used p k nextPlant = p < used
+Within used p k next_measure = p + k < used
+Within used p k next_plant = p < used
 Within used p k stop = Unit {0}
 
 within_all : (used p k : ℕ) → p + k < used → (step : Step) → Within used p k step
-within_all used p k h nextMeasure = h
-within_all used p k h nextPlant = omega arith
+within_all used p k h next_measure = h
+within_all used p k h next_plant = omega arith
 within_all used p k h stop = tt
 
 pub step_within : (archive : List ℕ) (used p k : ℕ) → used_of archive ≡ given used → Within used p k (step_after (settled archive p k))
@@ -47,8 +47,8 @@ module _ (archive : List ℕ) (used : ℕ) (head : used_of archive ≡ given use
       ap (λ rest. lines_of p k (settled archive p k) ++ rest) (go (step_after (settled archive p k)) (step_within archive used p k head))
     where
       go : (step : Step) → Within used p k step → go_on step f p k ≡ go_on step g p k
-      go nextMeasure h = measure h
-      go nextPlant h = plant h
+      go next_measure h = measure h
+      go next_plant h = plant h
       go stop h = refl
 
   -- so many steps and one more are enough from these places on: each step lessens (U - p) (U + 1) + (U - k)

@@ -88,27 +88,27 @@ module _ (archive : List ℕ) (owner : ℕ) (new : List ℕ) (p k : ℕ) where
   unfolding preview ◌>>=◌
   preview_settled places appended e = rw e
 
-  pub host_preview_refused : (listBytes resultBytes n : ℕ) → append archive owner new ≡ refused n → host_preview archive owner new p k listBytes resultBytes ≡ refused n
+  pub host_preview_refused : (list_bytes result_bytes n : ℕ) → append archive owner new ≡ refused n → host_preview archive owner new p k list_bytes result_bytes ≡ refused n
   unfolding host_preview ◌>>=◌
-  host_preview_refused listBytes resultBytes n e = rw e
+  host_preview_refused list_bytes result_bytes n e = rw e
 
-  pub host_preview_settled : (listBytes resultBytes : ℕ) (appended : List ℕ) → append archive owner new ≡ given appended
-      → host_preview archive owner new p k listBytes resultBytes ≡ host_settle appended p k listBytes resultBytes
+  pub host_preview_settled : (list_bytes result_bytes : ℕ) (appended : List ℕ) → append archive owner new ≡ given appended
+      → host_preview archive owner new p k list_bytes result_bytes ≡ host_settle appended p k list_bytes result_bytes
   unfolding host_preview ◌>>=◌
-  host_preview_settled listBytes resultBytes appended e = rw e
+  host_preview_settled list_bytes result_bytes appended e = rw e
 
 pub preview_settles : PreviewSettles
 preview_settles = record {
-  append_first = λ archive owner new p k list laterList later answer n h e.
+  append_first = λ archive owner new p k list later_list later answer n h e.
       let q = preview_refused archive owner new p k (length list) n e in
       (h.answers ∙ ap answer_of q, h.leaves_list ∙ ap (λ (o : Outcome Settlement). list_after o list) q);
-  then_settle = λ archive owner new p k list laterList later answer appended h e.
+  then_settle = λ archive owner new p k list later_list later answer appended h e.
       let q = preview_settled archive owner new p k (length list) appended e in
-      settle_keeps appended p k list laterList answer (h.answers ∙ ap answer_of q) (h.leaves_list ∙ ap (λ (o : Outcome Settlement). list_after o list) q);
-  host_append_first = λ archive owner new p k list laterList result laterResult laterArchive number n h e.
+      settle_keeps appended p k list later_list answer (h.answers ∙ ap answer_of q) (h.leaves_list ∙ ap (λ (o : Outcome Settlement). list_after o list) q);
+  host_append_first = λ archive owner new p k list later_list result later_result later_archive number n h e.
       let q = host_preview_refused archive owner new p k (length list) (length result) n e in
       (rw q at h.answers, rw q at h.leaves_list, rw q at h.leaves_result);
-  host_then_settle = λ archive owner new p k list laterList result laterResult laterArchive number appended h e.
+  host_then_settle = λ archive owner new p k list later_list result later_result later_archive number appended h e.
       let q = host_preview_settled archive owner new p k (length list) (length result) appended e in
       record { answers = rw q at h.answers; leaves_list = rw q at h.leaves_list; leaves_result = rw q at h.leaves_result };
 }

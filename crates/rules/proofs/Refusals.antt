@@ -166,9 +166,9 @@ settle_within : (archive : List ℕ) (p k places : ℕ) → RefusedWithin settle
 unfolding settle
 settle_within archive p k places = room_within _ (settled_within archive p k)
 
-host_within : (archive : List ℕ) (p k listBytes resultBytes : ℕ) → RefusedWithin settle_refusals (host_settle archive p k listBytes resultBytes)
+host_within : (archive : List ℕ) (p k list_bytes result_bytes : ℕ) → RefusedWithin settle_refusals (host_settle archive p k list_bytes result_bytes)
 unfolding host_settle
-host_within archive p k listBytes resultBytes = room_within _ (settled_within archive p k)
+host_within archive p k list_bytes result_bytes = room_within _ (settled_within archive p k)
 
 -- ---- append and audit
 
@@ -235,10 +235,10 @@ previews_within : (archive : List ℕ) (owner : ℕ) (new : List ℕ) (p k place
 unfolding preview
 previews_within archive owner new p k places = preview_within archive owner new (λ appended. settle_within appended p k places)
 
-host_previews_within : (archive : List ℕ) (owner : ℕ) (new : List ℕ) (p k listBytes resultBytes : ℕ)
-    → RefusedWithin preview_refusals (host_preview archive owner new p k listBytes resultBytes)
+host_previews_within : (archive : List ℕ) (owner : ℕ) (new : List ℕ) (p k list_bytes result_bytes : ℕ)
+    → RefusedWithin preview_refusals (host_preview archive owner new p k list_bytes result_bytes)
 unfolding host_preview
-host_previews_within archive owner new p k listBytes resultBytes = preview_within archive owner new (λ appended. host_within appended p k listBytes resultBytes)
+host_previews_within archive owner new p k list_bytes result_bytes = preview_within archive owner new (λ appended. host_within appended p k list_bytes result_bytes)
 
 delivers_within : (quarter : ℕ) (holidays : List ℕ) → RefusedWithin delivery_day_refusals (delivery_day quarter holidays)
 unfolding delivery_day
@@ -283,16 +283,16 @@ number_is (given s) e = ap (λ a. a.number) e
 pub refusals_change_nothing : RefusalsChangeNothing
 refusals_change_nothing = record {
   settles = λ archive p k list later answer s f. s.leaves ∙ kept (settle archive p k (length list)) _ list answer.number (number_is (settle archive p k (length list)) s.answers) f;
-  host_settles = λ archive p k list laterList result laterResult number h f.
+  host_settles = λ archive p k list later_list result later_result number h f.
       let o = host_settle archive p k (length list) (length result) in
       (h.leaves_list ∙ kept o _ list number h.answers f, h.leaves_result ∙ kept o _ result number h.answers f);
   freshens = λ archive later number h f. h.leaves ∙ kept (fresh archive) _ archive number h.answers f;
   appends = λ archive owner new later number h f. h.leaves ∙ kept (append archive owner new) _ archive number h.answers f;
   takes_back = λ archive later number h f. h.leaves ∙ kept (take_back archive) _ archive number h.answers f;
-  previews = λ archive owner new p k list laterList later answer h f.
+  previews = λ archive owner new p k list later_list later answer h f.
       let o = preview archive owner new p k (length list) in
       (h.leaves_list ∙ kept o _ list answer.number (number_is o h.answers) f, h.leaves_archive);
-  host_previews = λ archive owner new p k list laterList result laterResult laterArchive number h f.
+  host_previews = λ archive owner new p k list later_list result later_result later_archive number h f.
       let o = host_preview archive owner new p k (length list) (length result) in
       (h.leaves_list ∙ kept o _ list number h.answers f, h.leaves_result ∙ kept o _ result number h.answers f, h.leaves_archive);
   delivers = λ quarter holidays was day number h f. h.leaves ∙ kept (delivery_day quarter holidays) _ was number h.answers f;

@@ -17,7 +17,7 @@ module _ (archive : List ℕ) (used kind holder link : ℕ) where
   pub follow_some : (e : Entry) → follow archive used kind holder link ≡ given e → link ≡ 0 → ⊥
   follow_some e f z = let above = (follow_says archive used kind holder link e f).0 in omega arith
 
-  -- ---- a chain to its end; `chain-ends` of proofs/Chains.antt is its third case
+  -- ---- a chain to its end; `chain_ends` of proofs/Chains.antt is its third case
 
   pub chain_on : (e : Entry) → follow archive used kind holder link ≡ given e
       → chain archive used kind holder link ≡ (chain archive used kind e.number (next_of e.bytes) >>= λ es. given (e ∷ es))

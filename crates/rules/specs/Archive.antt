@@ -117,6 +117,6 @@ module _ (archive : List ℕ) (used kind : ℕ) where
       cond (eqb link 0) (given [])
       (follow holder link >>= λ e. chain_from steps e.number (next_of e.bytes) >>= λ es. given (e ∷ es))
 
-  -- a chain to its end; each link followed is above its holder and below U, so U steps are enough: `chain-is` of proofs/Chains.antt
+  -- a chain to its end; each link followed is above its holder and below U, so U steps are enough: `chain_is` of proofs/Chains.antt
   unfoldable pub chain : ℕ → ℕ → Outcome (List Entry)
   chain holder link = chain_from used holder link

@@ -88,14 +88,14 @@ deliveries =
 
 -- so many quarters with these bytes 1 and 2, the next one at this number
 abbrev quarters_at : ℕ → ℕ → ℕ → ℕ → List ℕ
-quarters_at month ofDay next zero = []
-quarters_at month ofDay next (suc zero) = quarter month ofDay 0 0 0 0 0
-quarters_at month ofDay next (suc (suc more)) = quarter month ofDay next 0 0 0 0 ++ quarters_at month ofDay (next + 1) (suc more)
+quarters_at month of_day next zero = []
+quarters_at month of_day next (suc zero) = quarter month of_day 0 0 0 0 0
+quarters_at month of_day next (suc (suc more)) = quarter month of_day next 0 0 0 0 ++ quarters_at month of_day (next + 1) (suc more)
 
 -- solar Pauschal, so many quarters from this one on: 1 plant, 2 measure, quarters from 3
 unfoldable pub dated_case : ℕ → ℕ → ℕ → ℕ → List ℕ
-dated_case first month ofDay count =
-    with_word (head (3 + count) 1 ++ plant 2 2 0 0 2 1000000 ++ measure 2 2 0 0 3 ++ quarters_at month ofDay 4 count) 2 16 first
+dated_case first month of_day count =
+    with_word (head (3 + count) 1 ++ plant 2 2 0 0 2 1000000 ++ measure 2 2 0 0 3 ++ quarters_at month of_day 4 count) 2 16 first
 
 -- the list that settle leaves, and its number alone
 abbrev leaving : List ℕ → ℕ → List ℤ

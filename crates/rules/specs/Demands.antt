@@ -25,14 +25,14 @@ pub record RefusedWithin {A : Type 0} (numbers : List ℕ) (o : Outcome A) : Typ
 
 pub record EveryCallAnswers : Type 0 where
   pub settles : (archive : List ℕ) (p k places : ℕ) → RefusedWithin settle_refusals (settle archive p k places)
-  pub host_settles : (archive : List ℕ) (p k listBytes resultBytes : ℕ) → RefusedWithin settle_refusals (host_settle archive p k listBytes resultBytes)
+  pub host_settles : (archive : List ℕ) (p k list_bytes result_bytes : ℕ) → RefusedWithin settle_refusals (host_settle archive p k list_bytes result_bytes)
   pub freshens : (archive : List ℕ) → RefusedWithin fresh_refusals (fresh archive)
   pub appends : (archive : List ℕ) (owner : ℕ) (new : List ℕ) → RefusedWithin append_refusals (append archive owner new)
   pub audits : (archive : List ℕ) → RefusedWithin audit_refusals (audit archive)
   pub takes_back : (archive : List ℕ) → RefusedWithin take_back_refusals (take_back archive)
   pub previews : (archive : List ℕ) (owner : ℕ) (new : List ℕ) (p k places : ℕ) → RefusedWithin preview_refusals (preview archive owner new p k places)
-  pub host_previews : (archive : List ℕ) (owner : ℕ) (new : List ℕ) (p k listBytes resultBytes : ℕ)
-      → RefusedWithin preview_refusals (host_preview archive owner new p k listBytes resultBytes)
+  pub host_previews : (archive : List ℕ) (owner : ℕ) (new : List ℕ) (p k list_bytes result_bytes : ℕ)
+      → RefusedWithin preview_refusals (host_preview archive owner new p k list_bytes result_bytes)
   pub delivers : (quarter : ℕ) (holidays : List ℕ) → RefusedWithin delivery_day_refusals (delivery_day quarter holidays)
   pub corrects : (amounts balanced prices : List ℤ) → RefusedWithin correction_refusals (correction amounts balanced prices)
 
@@ -40,17 +40,17 @@ pub record EveryCallAnswers : Type 0 where
 pub record RefusalsChangeNothing : Type 0 where
   pub settles : (archive : List ℕ) (p k : ℕ) (list later : List ℤ) (answer : Answer) → Settles archive p k list later answer
       → (answer.number ≡ 0 → ⊥) → later ≡ list
-  pub host_settles : (archive : List ℕ) (p k : ℕ) (list laterList result laterResult : List ℕ) (number : ℕ)
-      → HostSettles archive p k list laterList result laterResult number → (number ≡ 0 → ⊥) → (laterList ≡ list) × (laterResult ≡ result)
+  pub host_settles : (archive : List ℕ) (p k : ℕ) (list later_list result later_result : List ℕ) (number : ℕ)
+      → HostSettles archive p k list later_list result later_result number → (number ≡ 0 → ⊥) → (later_list ≡ list) × (later_result ≡ result)
   pub freshens : (archive later : List ℕ) (number : ℕ) → Freshens archive later number → (number ≡ 0 → ⊥) → later ≡ archive
   pub appends : (archive : List ℕ) (owner : ℕ) (new later : List ℕ) (number : ℕ) → Appends archive owner new later number
       → (number ≡ 0 → ⊥) → later ≡ archive
   pub takes_back : (archive later : List ℕ) (number : ℕ) → TakesBack archive later number → (number ≡ 0 → ⊥) → later ≡ archive
-  pub previews : (archive : List ℕ) (owner : ℕ) (new : List ℕ) (p k : ℕ) (list laterList : List ℤ) (later : List ℕ) (answer : Answer)
-      → Previews archive owner new p k list laterList later answer → (answer.number ≡ 0 → ⊥) → (laterList ≡ list) × (later ≡ archive)
-  pub host_previews : (archive : List ℕ) (owner : ℕ) (new : List ℕ) (p k : ℕ) (list laterList result laterResult laterArchive : List ℕ) (number : ℕ)
-      → HostPreviews archive owner new p k list laterList result laterResult laterArchive number → (number ≡ 0 → ⊥)
-      → (laterList ≡ list) × (laterResult ≡ result) × (laterArchive ≡ archive)
+  pub previews : (archive : List ℕ) (owner : ℕ) (new : List ℕ) (p k : ℕ) (list later_list : List ℤ) (later : List ℕ) (answer : Answer)
+      → Previews archive owner new p k list later_list later answer → (answer.number ≡ 0 → ⊥) → (later_list ≡ list) × (later ≡ archive)
+  pub host_previews : (archive : List ℕ) (owner : ℕ) (new : List ℕ) (p k : ℕ) (list later_list result later_result later_archive : List ℕ) (number : ℕ)
+      → HostPreviews archive owner new p k list later_list result later_result later_archive number → (number ≡ 0 → ⊥)
+      → (later_list ≡ list) × (later_result ≡ result) × (later_archive ≡ archive)
   pub delivers : (quarter : ℕ) (holidays : List ℕ) (was day number : ℕ) → Delivers quarter holidays was day number → (number ≡ 0 → ⊥) → day ≡ was
   pub corrects : (amounts balanced prices : List ℤ) (was cents : ℤ) (rest remainder number : ℕ)
       → HostCorrects amounts balanced prices was cents rest remainder number → (number ≡ 0 → ⊥) → (cents ≡ was) × (remainder ≡ rest)
@@ -155,17 +155,17 @@ TakesFilingsBack =
 
 -- append's refusal is the preview's; where append isn't refused, the preview is settle on the later archive, with all that settle promises
 pub record PreviewSettles : Type 0 where
-  pub append_first : (archive : List ℕ) (owner : ℕ) (new : List ℕ) (p k : ℕ) (list laterList : List ℤ) (later : List ℕ) (answer : Answer) (n : ℕ)
-      → Previews archive owner new p k list laterList later answer → append archive owner new ≡ refused n
-      → (answer ≡ answer_of (refused n)) × (laterList ≡ list)
-  pub then_settle : (archive : List ℕ) (owner : ℕ) (new : List ℕ) (p k : ℕ) (list laterList : List ℤ) (later : List ℕ) (answer : Answer) (appended : List ℕ)
-      → Previews archive owner new p k list laterList later answer → append archive owner new ≡ given appended → Settles appended p k list laterList answer
-  pub host_append_first : (archive : List ℕ) (owner : ℕ) (new : List ℕ) (p k : ℕ) (list laterList result laterResult laterArchive : List ℕ) (number n : ℕ)
-      → HostPreviews archive owner new p k list laterList result laterResult laterArchive number → append archive owner new ≡ refused n
-      → (number ≡ n) × (laterList ≡ list) × (laterResult ≡ result)
-  pub host_then_settle : (archive : List ℕ) (owner : ℕ) (new : List ℕ) (p k : ℕ) (list laterList result laterResult laterArchive : List ℕ) (number : ℕ) (appended : List ℕ)
-      → HostPreviews archive owner new p k list laterList result laterResult laterArchive number → append archive owner new ≡ given appended
-      → HostSettles appended p k list laterList result laterResult number
+  pub append_first : (archive : List ℕ) (owner : ℕ) (new : List ℕ) (p k : ℕ) (list later_list : List ℤ) (later : List ℕ) (answer : Answer) (n : ℕ)
+      → Previews archive owner new p k list later_list later answer → append archive owner new ≡ refused n
+      → (answer ≡ answer_of (refused n)) × (later_list ≡ list)
+  pub then_settle : (archive : List ℕ) (owner : ℕ) (new : List ℕ) (p k : ℕ) (list later_list : List ℤ) (later : List ℕ) (answer : Answer) (appended : List ℕ)
+      → Previews archive owner new p k list later_list later answer → append archive owner new ≡ given appended → Settles appended p k list later_list answer
+  pub host_append_first : (archive : List ℕ) (owner : ℕ) (new : List ℕ) (p k : ℕ) (list later_list result later_result later_archive : List ℕ) (number n : ℕ)
+      → HostPreviews archive owner new p k list later_list result later_result later_archive number → append archive owner new ≡ refused n
+      → (number ≡ n) × (later_list ≡ list) × (later_result ≡ result)
+  pub host_then_settle : (archive : List ℕ) (owner : ℕ) (new : List ℕ) (p k : ℕ) (list later_list result later_result later_archive : List ℕ) (number : ℕ) (appended : List ℕ)
+      → HostPreviews archive owner new p k list later_list result later_result later_archive number → append archive owner new ≡ given appended
+      → HostSettles appended p k list later_list result later_result number
 
 -- what was kept of an archive, and that an append is undone with it
 pub record Undoes (archive : List ℕ) (new appended : List ℕ) : Type 0 where

@@ -57,7 +57,7 @@ before mark next measured weather = record_of before_kind mark 0 next measured 0
 
 -- month, quarter of the day, next, measured power, limit, weather, planned power
 abbrev pub quarter : ℕ → ℕ → ℕ → ℕ → ℕ → ℕ → ℕ → List ℕ
-quarter month ofDay next measured limit weather planned = record_of quarter_kind month ofDay next measured limit weather planned
+quarter month of_day next measured limit weather planned = record_of quarter_kind month of_day next measured limit weather planned
 
 -- an archive with one byte, or the four bytes of one number, of record n changed
 abbrev pub with_byte : List ℕ → ℕ → ℕ → ℕ → List ℕ
@@ -127,8 +127,8 @@ case_g =
 
 -- solar Pauschal, two quarters in this month from this quarter of the day on: 1 plant, 2 measure, 3-4 quarters
 unfoldable pub factor_case : ℕ → ℕ → List ℕ
-factor_case month ofDay =
-    head 5 1 ++ plant 2 2 0 0 2 1000000 ++ measure 2 2 0 0 3 ++ quarter month ofDay 4 0 0 0 0 ++ quarter month (ofDay + 1) 0 0 0 0 0
+factor_case month of_day =
+    head 5 1 ++ plant 2 2 0 0 2 1000000 ++ measure 2 2 0 0 3 ++ quarter month of_day 4 0 0 0 0 ++ quarter month (of_day + 1) 0 0 0 0 0
 
 abbrev pub case_h : List ℕ
 case_h = factor_case 7 35
@@ -432,16 +432,16 @@ calls =
     )
     ∷ (hosting case_a 1 1 (replicate 23 9) (replicate 24 9), 13 ∷ replicate 47 9)
     -- the program: case a as 01 prints it
-    ∷ (text_of_all (output case_a), ascii "M 1 1 3 224999 6\nQ 1 74999\nQ 2 75000\nQ 3 75000\n")
+    ∷ (text_of_all (output case_a), ascii "M 1 1 3 224999 6\n_q 1 74999\n_q 2 75000\n_q 3 75000\n")
     -- a refused head; no plant
     ∷ (text_of_all (output (take 33 case_a)), ascii "E 0 0 1\n")
     ∷ (text_of_all (output (head 1 0)), [])
     -- a refused measure leads on to the next one, the last measure of a plant to the next plant
-    ∷ (text_of_all (output two_plants), ascii "E 1 1 8\nM 1 2 1 -25000 4\nQ 1 -25000\nM 2 1 1 154725 4\nQ 1 154725\n")
+    ∷ (text_of_all (output two_plants), ascii "E 1 1 8\n_m 1 2 1 -25000 4\n_q 1 -25000\n_m 2 1 1 154725 4\n_q 1 154725\n")
     -- 2 or 3 ends the program after its line: on a measure's own chain, though others would settle, and on the plants' chain
     ∷ (text_of_all (output (with_word two_plants 2 12 2)), ascii "E 1 1 2\n")
     ∷ (text_of_all (output (with_word two_plants 2 12 3)), ascii "E 1 1 3\n")
-    ∷ (text_of_all (output (with_word two_plants 1 4 1)), ascii "E 1 1 8\nM 1 2 1 -25000 4\nQ 1 -25000\nE 2 1 2\n")
+    ∷ (text_of_all (output (with_word two_plants 1 4 1)), ascii "E 1 1 8\n_m 1 2 1 -25000 4\n_q 1 -25000\n_e 2 1 2\n")
     ∷ []
 
 -- the program on long inputs: no plant, in 65,536 bytes; 32 bytes more

@@ -7,9 +7,9 @@ use Rattle.rules.specs.Encoding.{encoded}
 
 -- the list has a place for every 8 of its bytes, and the result part is 24 bytes long: 13, in 13's place
 unfoldable pub host_settle : List ℕ → ℕ → ℕ → ℕ → ℕ → Outcome Settlement
-host_settle archive p k listBytes resultBytes = do
+host_settle archive p k list_bytes result_bytes = do
   s ← settled archive p k
-  require (leb (count_of s) (listBytes / 8) && eqb resultBytes 24) no_room
+  require (leb (count_of s) (list_bytes / 8) && eqb result_bytes 24) no_room
   given s
 
 -- the list's bytes afterwards: 8 to a place; later places and bytes past the last whole place stay

@@ -4,8 +4,8 @@ use Rattle.std.specs.Prelude.{ℕ, Bool, true, cond, List, [], ◌∷◌, leb, �
 use Rattle.rules.specs.Numbers.{smaller}
 use Rattle.rules.specs.Terms.{Technology, wind, solar, other, Variant, spitz, pauschal, Direction, positive, negative, Terms, is_power, Reading, none, of, Quarter}
 pub use Rattle.rules.specs.declared.Bounding.{Bounding}
-pub use Rattle.rules.specs.declared.Bounding.TheVariants.{Unbounded as unbounded, ReferenceByBoth as referenceByBoth}
-pub use Rattle.rules.specs.declared.Bounding.TheVariants.{ReferenceByNonavailability as referenceByNonavailability, LimitationByNonavailability as limitationByNonavailability}
+pub use Rattle.rules.specs.declared.Bounding.TheVariants.{Unbounded as unbounded, ReferenceByBoth as reference_by_both}
+pub use Rattle.rules.specs.declared.Bounding.TheVariants.{ReferenceByNonavailability as reference_by_nonavailability, LimitationByNonavailability as limitation_by_nonavailability}
 
 -- ---- which measures
 
@@ -23,11 +23,11 @@ is_since_october terms = leb october2026 terms.first
 -- wind and other Pauschal have more readings; solar and the Spitz variants keep their rules, and other plants don't read the market adjustment
 abbrev pub bounding_by : Technology → Variant → Direction → Bounding
 -- 003, 3.2.2.3: the smallest of reference and both; P_inst, which its formula has besides, is no part of 02's rule
-bounding_by wind pauschal direction = referenceByBoth
+bounding_by wind pauschal direction = reference_by_both
 -- 003, 3.3.2, negative: the smaller of reference and nonavailability
-bounding_by other pauschal negative = referenceByNonavailability
+bounding_by other pauschal negative = reference_by_nonavailability
 -- 003, 3.3.2, positive: the smaller of L and nonavailability in L's place
-bounding_by other pauschal positive = limitationByNonavailability
+bounding_by other pauschal positive = limitation_by_nonavailability
 bounding_by wind spitz direction = unbounded
 bounding_by other spitz direction = unbounded
 bounding_by solar variant direction = unbounded
@@ -38,16 +38,16 @@ bounding_of terms = cond (is_since_october terms) (bounding_by terms.technology 
 -- the readings that bound T
 abbrev pub reference_bounds : Bounding → Quarter → List Reading
 reference_bounds unbounded q = []
-reference_bounds referenceByBoth q = q.nonavailability ∷ q.market_adjustment ∷ []
-reference_bounds referenceByNonavailability q = q.nonavailability ∷ []
-reference_bounds limitationByNonavailability q = []
+reference_bounds reference_by_both q = q.nonavailability ∷ q.market_adjustment ∷ []
+reference_bounds reference_by_nonavailability q = q.nonavailability ∷ []
+reference_bounds limitation_by_nonavailability q = []
 
 -- those that bound L
 abbrev pub limitation_bounds : Bounding → Quarter → List Reading
 limitation_bounds unbounded q = []
-limitation_bounds referenceByBoth q = []
-limitation_bounds referenceByNonavailability q = []
-limitation_bounds limitationByNonavailability q = q.nonavailability ∷ []
+limitation_bounds reference_by_both q = []
+limitation_bounds reference_by_nonavailability q = []
+limitation_bounds limitation_by_nonavailability q = q.nonavailability ∷ []
 
 -- ---- the bound
 

@@ -24,17 +24,17 @@ lines_of p k (given s) = measure_line p k (count_of s) (total_of s) s.links ∷ 
 -- ---- the order
 
 pub data Step : Type 0 where
-  nextMeasure nextPlant stop : Step
+  next_measure next_plant stop : Step
 
 -- 5 leads on to the next plant, 4 ends the program, 2 or 3 ends it after its line, anything else leads on to the next measure
 abbrev pub step_after : Outcome Settlement → Step
 step_after (refused n) =
-    cond (eqb n no_plant || eqb n bad_link || eqb n wrong_kind) stop (cond (eqb n no_measure) nextPlant nextMeasure)
-step_after (given s) = nextMeasure
+    cond (eqb n no_plant || eqb n bad_link || eqb n wrong_kind) stop (cond (eqb n no_measure) next_plant next_measure)
+step_after (given s) = next_measure
 
 abbrev pub go_on : Step → (ℕ → ℕ → List Line) → ℕ → ℕ → List Line
-go_on nextMeasure rest p k = rest p (k + 1)
-go_on nextPlant rest p k = rest (p + 1) 1
+go_on next_measure rest p k = rest p (k + 1)
+go_on next_plant rest p k = rest (p + 1) 1
 go_on stop rest p k = []
 
 -- from measure place k of plant place p on, in at most so many steps

@@ -14,9 +14,9 @@ preview archive owner new p k places = do
 
 -- the same for the operator's host, in C
 unfoldable pub host_preview : List ℕ → ℕ → List ℕ → ℕ → ℕ → ℕ → ℕ → Outcome Settlement
-host_preview archive owner new p k listBytes resultBytes = do
+host_preview archive owner new p k list_bytes result_bytes = do
   appended ← append archive owner new
-  host_settle appended p k listBytes resultBytes
+  host_settle appended p k list_bytes result_bytes
 
 -- ---- an append undone, which isn't taking back
 

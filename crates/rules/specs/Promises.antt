@@ -28,10 +28,10 @@ pub record Settles (archive : List ℕ) (p k : ℕ) (list later : List ℤ) (ans
   pub keeps : answer.number ≡ 0 → KeepsToFractions archive p k later answer
 
 -- the same for the operator's host: the list and the results as bytes
-pub record HostSettles (archive : List ℕ) (p k : ℕ) (list laterList result laterResult : List ℕ) (number : ℕ) : Type 0 where
+pub record HostSettles (archive : List ℕ) (p k : ℕ) (list later_list result later_result : List ℕ) (number : ℕ) : Type 0 where
   pub answers : number ≡ number_of (host_settle archive p k (length list) (length result))
-  pub leaves_list : laterList ≡ host_list_after (host_settle archive p k (length list) (length result)) list
-  pub leaves_result : laterResult ≡ host_result_after (host_settle archive p k (length list) (length result)) result
+  pub leaves_list : later_list ≡ host_list_after (host_settle archive p k (length list) (length result)) list
+  pub leaves_result : later_result ≡ host_result_after (host_settle archive p k (length list) (length result)) result
 
 pub record Freshens (archive later : List ℕ) (number : ℕ) : Type 0 where
   pub answers : number ≡ number_of (fresh archive)
@@ -46,17 +46,17 @@ pub record TakesBack (archive later : List ℕ) (number : ℕ) : Type 0 where
   pub leaves : later ≡ archive_after (take_back archive) archive
 
 -- preview (02, 6), with append's owner and record and settle's places and list: the archive is lent for writing, and is as before in every case
-pub record Previews (archive : List ℕ) (owner : ℕ) (new : List ℕ) (p k : ℕ) (list laterList : List ℤ) (later : List ℕ) (answer : Answer) : Type 0 where
+pub record Previews (archive : List ℕ) (owner : ℕ) (new : List ℕ) (p k : ℕ) (list later_list : List ℤ) (later : List ℕ) (answer : Answer) : Type 0 where
   pub answers : answer ≡ answer_of (preview archive owner new p k (length list))
-  pub leaves_list : laterList ≡ list_after (preview archive owner new p k (length list)) list
+  pub leaves_list : later_list ≡ list_after (preview archive owner new p k (length list)) list
   pub leaves_archive : later ≡ archive
 
 -- the same for the operator's host
-pub record HostPreviews (archive : List ℕ) (owner : ℕ) (new : List ℕ) (p k : ℕ) (list laterList result laterResult laterArchive : List ℕ) (number : ℕ) : Type 0 where
+pub record HostPreviews (archive : List ℕ) (owner : ℕ) (new : List ℕ) (p k : ℕ) (list later_list result later_result later_archive : List ℕ) (number : ℕ) : Type 0 where
   pub answers : number ≡ number_of (host_preview archive owner new p k (length list) (length result))
-  pub leaves_list : laterList ≡ host_list_after (host_preview archive owner new p k (length list) (length result)) list
-  pub leaves_result : laterResult ≡ host_result_after (host_preview archive owner new p k (length list) (length result)) result
-  pub leaves_archive : laterArchive ≡ archive
+  pub leaves_list : later_list ≡ host_list_after (host_preview archive owner new p k (length list) (length result)) list
+  pub leaves_result : later_result ≡ host_result_after (host_preview archive owner new p k (length list) (length result)) result
+  pub leaves_archive : later_archive ≡ archive
 
 -- show hands back a part of the lent archive itself: its bytes, the block that it lies in, and the place there
 pub record Shows (archive : Bor (List ℕ)) (n : ℕ) (part : Bor (List ℕ)) : Type 0 where

@@ -6,8 +6,8 @@ use Rattle.rules.specs.declared.Technology.{Technology}
 use Rattle.rules.specs.declared.Technology.TheVariants.{Wind as wind, Solar as solar, Other as other}
 use Rattle.rules.specs.declared.Variant.TheVariants.{Spitz as spitz, Pauschal as pauschal}
 use Rattle.rules.specs.declared.Direction.TheVariants.{Positive as positive, Negative as negative}
-use Rattle.rules.specs.declared.Bounding.TheVariants.{Unbounded as unbounded, ReferenceByBoth as referenceByBoth}
-use Rattle.rules.specs.declared.Bounding.TheVariants.{ReferenceByNonavailability as referenceByNonavailability, LimitationByNonavailability as limitationByNonavailability}
+use Rattle.rules.specs.declared.Bounding.TheVariants.{Unbounded as unbounded, ReferenceByBoth as reference_by_both}
+use Rattle.rules.specs.declared.Bounding.TheVariants.{ReferenceByNonavailability as reference_by_nonavailability, LimitationByNonavailability as limitation_by_nonavailability}
 use Rattle.rules.specs.Terms.{Terms}
 use Rattle.rules.specs.October.{october2026, bounding_by, bounding_of}
 
@@ -30,14 +30,14 @@ module _ (terms : Terms) where
         go other = refl
 
     module _ (v : terms.variant ≡ pauschal) where
-      pub bounding_wind : terms.technology ≡ wind → referenceByBoth ≡ bounding_of terms
+      pub bounding_wind : terms.technology ≡ wind → reference_by_both ≡ bounding_of terms
       bounding_wind t = rw (by_terms, v, t)
 
       pub bounding_solar : terms.technology ≡ solar → unbounded ≡ bounding_of terms
       bounding_solar t = rw (by_terms, v, t)
 
-      pub bounding_positive : terms.technology ≡ other → terms.direction ≡ positive → limitationByNonavailability ≡ bounding_of terms
+      pub bounding_positive : terms.technology ≡ other → terms.direction ≡ positive → limitation_by_nonavailability ≡ bounding_of terms
       bounding_positive t s = rw (by_terms, v, t, s)
 
-      pub bounding_negative : terms.technology ≡ other → terms.direction ≡ negative → referenceByNonavailability ≡ bounding_of terms
+      pub bounding_negative : terms.technology ≡ other → terms.direction ≡ negative → reference_by_nonavailability ≡ bounding_of terms
       bounding_negative t s = rw (by_terms, v, t, s)

@@ -7,8 +7,8 @@ use Rattle.record.specs.Powers.{SmallestOf}
 use Rattle.record.proofs.Readings.{smallest_power}
 use Rattle.reference.proofs.lowest.Goals as goal
 
-of-told : (q : Quarter) {b x : Bounding} → b ≡ x → reference_bounds b q ≡ reference_bounds x q
-of-told q told = ap (λ (y : Bounding). reference_bounds y q) told
+of_told : (q : Quarter) {b x : Bounding} → b ≡ x → reference_bounds b q ≡ reference_bounds x q
+of_told q told = ap (λ (y : Bounding). reference_bounds y q) told
 
 abbrev both : Reading → Reading → List Reading
 both x y = x ∷ y ∷ []
