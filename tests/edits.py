@@ -2,7 +2,9 @@
 """The wrong programs and wrong rules of crates/*/must-fail, and where the prover refuses each.
 
     edits.py                                the edits as they are written
-    edits.py LOGS [CRATE ..]                and what the prover said of each, or of each in these crates, as rt leaves it in a folder
+    edits.py --try LOGS [CRATE ..]          has the prover try each edit, or each of these crates, and keeps what it said in a folder; a log whose
+                                            crate, crates below and edit are as they were when it was written is kept, and not made again
+    edits.py LOGS [CRATE ..]                the edits as they are written, and what the prover said of each by these logs
     edits.py --self-test LOGS [CRATE ..]    what it said of each wrong program taken out of its log, and wrong rules that the same theorem
                                             refuses put in one edit, which the check must see
 
@@ -14,44 +16,56 @@ the rest of the crate again, so one edit may hold several wrong programs:
     old: ..
     new: ..
     refused: plant_factor       where it has to be refused, if that isn't the function whose text it changes last: another function, or
-                                a theorem, as Figures: orders-hold
+                                a theorem, as Figures: orders_hold
 
-Of an edit with several, rt tells only that the crate isn't proved. So each of them changes the body of one function and nothing else, no
-two the body of the same: a proof reads its own function's body and the contracts of others. What the log says of a function is then about
-its own wrong program, and for each wrong program the log must have a refusal there: at a fact, and not at a name that is missing, at the
-proof's shape, where the prover gave up, or only because something else wasn't admitted. No function that is as it should be may have a
-refusal of its own. Every public function has two wrong programs or more.
+Of an edit with several, rt tells only that the crate isn't proved, and of what the prover said it keeps a line. So each of them changes the
+body of one function and nothing else, no two the body of the same: a proof reads its own function's body and the contracts of others. What
+the prover says of a function is then about its own wrong program, and for each wrong program the log must have a refusal there: at a fact,
+and not at a name that is missing, at the proof's shape, where the prover gave up, or only because something else wasn't admitted. No
+function that is as it should be may have a refusal of its own. Every public function has two wrong programs or more.
+
+The prover leaves the goals of some callers alone while a callee isn't proved. Where the log of an edit with several has no refusal for a
+wrong program, that one is tried alone, in a log of its own.
 
 A wrong rule changes definitions, which many proofs read, and a list of worked examples has to refuse it, or a law. Those that lists refuse
 share an edit where no list can depend on what another one changes: a list depends on the definitions whose names stand in its text, in
 their texts and so on, and on every operator. What the log says of a list is then about its own wrong rule."""
 
+import hashlib
+import os
 import re
+import shutil
+import subprocess
 import sys
+import tempfile
 from collections import Counter
+from concurrent.futures import ThreadPoolExecutor
 from functools import cache
 from itertools import combinations
 from pathlib import Path
+from threading import local
 from typing import NamedTuple
 
 ROOT = Path(__file__).resolve().parent.parent
-ITEM = re.compile(r'^(?:#\[no_mangle\]\n)?(?:pub )?(?:extern "C" )?(fn|const|struct|enum) (\w+)', re.M)
+ITEM = re.compile(r'^(?:#\[.*\]\n)*(?:pub )?(?:extern "C" )?(fn|const|struct|enum) (\w+)', re.M)
 PUBLIC = re.compile(r'^pub (?:extern "C" )?fn (\w+)', re.M)
 BODY = re.compile(r"^(?:.* )?\{\n(?s:.*?)^\}$", re.M)
-# What the prover says of a proof of ours, and of one that it makes itself; in the words of the kit that README names.
-ERROR = re.compile(r"^\S*?/(?:proofs|specs)/(\S+?)(?:/Proof)?\.antt:\d+:\d+: error: `([^`]+)`: (.*(?:\n  .*)*)", re.M)
-UNPROVED = re.compile(r"^note: \S*?/(src/\w+\.rt):(\d+):\d+: it is not proved that .* \(`([^`]+)`\)$", re.M)
+# What the prover says of a proof of ours, and of one that it makes itself; in the words of the kit that README names. What it says of the
+# goals of a function comes before the function's line.
+ERROR = re.compile(r"^\S*?(?:proofs|specs)/(\S+?)(?:/(Answers|Invariants|Proof))?\.antt:\d+:\d+: error: `([^`]+)`: (.*(?:\n  .*)*)", re.M)
+UNPROVED = re.compile(r"^note: \S*?src/\S+\.rt:\d+:\d+: it is not proved that .* \(`([^`]+)`\)(.*)$|^fn \w+::(?:\S+::)?(\w+): .*$", re.M)
+UNREAD = re.compile(r"^.*(?::\d+:\d+: error: (?!`[^`]+`: )|\berror\[).*$", re.M)
 PASSED_ON = re.compile(r".* was not admitted\b")
 NAME = re.compile(r".* is not in scope:")
 # What a file of definitions or proofs declares, the words of a declaration, and the statement that worked examples hold.
 DECLARATION = re.compile(r"^(?:  )?(?:(?:pub|abbrev|unfoldable) )*(?:(?:record|data) (\S+)|([^\s:]+) :).*", re.M)
 WORD = re.compile(r"[^\s(){}\[\],;.]+")
 EXAMPLES = re.compile(r"(?:pub )?\S+ : Hold \S+$", re.M)
-# What a proof is put together from: a loop's invariant and measure, and the whole.
-PARTS = re.compile(r"Inv-|μ-|\S+-spec$")
-SHAPE = re.compile(r"record `\S+`\s+has no field\b|`\S+`: module `\S+`\s+has no\b|expected type `tie\.Need-")
+# Where a proof no longer fits its function: a goal that isn't there, or an invariant that can't be read.
+SHAPE = re.compile(r"record `\S+`\s+has no field\b|`\S+`: module `\S+`\s+has no\b|module `\S+`\s+has no\b|`\S+` is no (?:goal|step|name)\b")
 # What it says where it neither proves nor refutes.
-GAVE_UP = re.compile(r"`omega`\s+stopped\s+at\s+a\s+bound\b")
+GAVE_UP = re.compile(r"`omega`\s+stopped\s+at\s+a\s+bound\b|`\w+`\s+gave\s+up\s+at\s+one\s+of\s+its\s+limits\b")
+PARTS = ("src", "specs", "proofs")
 
 
 class Change(NamedTuple):
@@ -87,11 +101,12 @@ class Holder(NamedTuple):
 
 
 class Refusal(NamedTuple):
-    """What the prover refused: the function or the file of proofs, the declaration, and what was said of it."""
+    """What the prover refused: the function or the file of proofs, the declaration, what was said of it, and which file of its proof."""
 
     where: str
     what: str
     said: str
+    file: str = ""
 
     def is_at(self, where, what):
         return self.where == where and what in ("", self.what)
@@ -100,7 +115,7 @@ class Refusal(NamedTuple):
         return not PASSED_ON.match(self.said)
 
     def is_fact(self):
-        return self.is_own() and not SHAPE.match(self.said) and not GAVE_UP.search(self.said) and not PARTS.match(self.what)
+        return self.is_own() and self.file != "Invariants" and not SHAPE.match(self.said) and not GAVE_UP.search(self.said)
 
 
 @cache
@@ -183,7 +198,7 @@ def theorem(wrong):
 def reached(wrong):
     """The definitions that this theorem can depend on: by name, and every operator, whose name doesn't stand where it is used."""
     words = words_of(wrong.crate)
-    found, new = set(), set(WORD.findall(theorem(wrong))) | {name for name in words if "_" in name}
+    found, new = set(), set(WORD.findall(theorem(wrong))) | {name for name in words if "◌" in name}
     while new:
         name = new.pop()
         if name in words and name not in found:
@@ -258,33 +273,158 @@ def check_counts(edits):
                 yield f"{path.parts[-3]}::{name}: {places[path.parts[-3], name]} wrong programs"
 
 
-def refusals(folder):
-    """All that the prover refused in an edit's copy of its crate."""
-    log = text_of(folder / ".log")
-    found = [Refusal(*m.groups()) for m in ERROR.finditer(log)]
-    for m in UNPROVED.finditer(log):
-        source = text_of(folder / m[1])
-        at = len("".join(source.splitlines(keepends=True)[: int(m[2]) - 1]))
-        found.append(Refusal(item_at(source, at)[2], m[3], ""))
+@cache
+def below(crate):
+    """A crate and the crates of this repository that it stands on."""
+    lines = (line.partition(":") for line in text_of(ROOT / "crates.txt").splitlines() if not line.startswith("#"))
+    deps = {words.split()[0]: rest.split() for words, _, rest in lines if words}
+    found = {crate}
+    for dep in deps[crate]:
+        if dep in deps:
+            found |= below(dep)
     return found
 
 
-def check_log(edit, said):
+@cache
+def sources(crate):
+    """The files that the proof of a crate reads, by their paths in it."""
+    paths = [path for part in PARTS for path in sorted((ROOT / "crates" / crate / part).rglob("*")) if path.is_file()]
+    return {str(path.relative_to(ROOT / "crates" / crate)): text_of(path) for path in paths}
+
+
+@cache
+def kit():
+    return subprocess.run(["rt", "version"], capture_output=True, text=True, check=True).stdout.strip()
+
+
+def edited(crate, wrongs):
+    """The files that wrong programs change, as they are then."""
+    found = {}
+    for wrong in wrongs:
+        for file, old, new in wrong.changes:
+            text = found.get(file, sources(crate)[file])
+            if text.count(old) != 1:
+                raise SystemExit(f"{wrong}: this stands {text.count(old)} times in {file}, and not once: {old}")
+            found[file] = text.replace(old, new)
+    return found
+
+
+def stamp(wrongs):
+    """The first line of a log of these wrong programs: a sum of all that the prover reads."""
+    crate = wrongs[0].crate
+    told = [kit(), sorted(edited(crate, wrongs).items()), [sorted(sources(it).items()) for it in sorted(below(crate))]]
+    return f"of {hashlib.sha256(repr(told).encode()).hexdigest()}"
+
+
+def is_of(log, wrongs):
+    """Whether a log is there and was written for these wrong programs, with all else as it is now."""
+    return log.exists() and log.read_text(encoding="utf-8").partition("\n")[0] == stamp(wrongs)
+
+
+class Trees(local):
+    """A copy of what the prover reads, for each thread that has it try edits; `rt check` in one copy waits for another there."""
+
+    def __init__(self, above):
+        self.root = Path(tempfile.mkdtemp(dir=above))
+        for name in ("crates.txt", "HANDLES"):
+            if (ROOT / name).exists():
+                shutil.copy(ROOT / name, self.root)
+        for folder in ROOT.glob("crates/*/"):
+            for part in PARTS:
+                if (folder / part).is_dir():
+                    shutil.copytree(folder / part, self.root / "crates" / folder.name / part)
+
+
+def say_of(trees, wrongs, log):
+    """Has the prover try wrong programs together, unless a log of the same is there."""
+    crate = wrongs[0].crate
+    if is_of(log, wrongs):
+        return
+    texts = edited(crate, wrongs)
+    folder = trees.root / "crates" / crate
+    for file, text in texts.items():
+        (folder / file).write_text(text, encoding="utf-8")
+    ran = subprocess.run(["rt", "check"], cwd=folder, stdin=subprocess.DEVNULL, stdout=subprocess.PIPE, stderr=subprocess.STDOUT)
+    for file in texts:
+        (folder / file).write_text(sources(crate)[file], encoding="utf-8")
+    log.parent.mkdir(parents=True, exist_ok=True)
+    log.write_text(f"{stamp(wrongs)}\n{ran.stdout.decode(errors='replace')}", encoding="utf-8")
+
+
+def log_of(logs, wrong, alone=False):
+    return Path(logs) / wrong.crate / (f"{wrong.edit}.{wrong.label}.log" if alone else f"{wrong.edit}.log")
+
+
+def try_edits(logs, edits):
+    """Has the prover try edits side by side, and then each wrong program alone that the log of several doesn't show refused."""
+    jobs = int(os.environ.get("RT_JOBS", os.cpu_count()))
+    with tempfile.TemporaryDirectory(prefix="edits-") as above, ThreadPoolExecutor(jobs) as pool:
+        trees = Trees(above)
+
+        def attempt(edit):
+            say_of(trees, edit, log_of(logs, edit[0]))
+            if len(edit) > 1 and not edit[0].is_rule():
+                said = refusals(log_of(logs, edit[0]))
+                for wrong in edit:
+                    if not is_refused(wrong, said):
+                        say_of(trees, [wrong], log_of(logs, wrong, alone=True))
+
+        list(pool.map(attempt, edits))
+
+
+def refusals(log):
+    """All that the prover refused by a log."""
+    text = log.read_text(encoding="utf-8")
+    found = [Refusal(where, what, said, file) for where, file, what, said in ERROR.findall(text)]
+    goals = []
+    for goal, said, function in UNPROVED.findall(text):
+        if function:
+            found += [Refusal(function, *it) for it in goals]
+            goals = []
+        else:
+            goals.append((goal, said))
+    return found
+
+
+def said_of(logs, edit):
+    """What the prover said of an edit, and of each of its wrong programs that was tried alone."""
+    alone = {wrong.label: (wrong, log_of(logs, wrong, alone=True)) for wrong in edit}
+    return refusals(log_of(logs, edit[0])), {label: refusals(log) for label, (wrong, log) in alone.items() if is_of(log, [wrong])}
+
+
+def is_refused(wrong, said):
+    return any(r.is_at(*place(wrong)) and r.is_fact() for r in said)
+
+
+def check_tried(log, wrongs):
+    """What shows that a log says nothing of these wrong programs."""
+    if not is_of(log, wrongs):
+        yield f"{log}: not tried as they are now"
+    else:
+        text = log.read_text(encoding="utf-8")
+        yield from (f"{log}: not read: {line}" for line in UNREAD.findall(text))
+        if "\nlogic=not-proved" not in text:
+            yield f"{log}: the prover came to no refusal"
+
+
+def check_log(edit, said, alone):
     """What the log of an edit should say and doesn't, and the other way round."""
-    name, own = f"{edit[0].crate}/{edit[0].edit}", [r for r in said if r.is_own()]
-    yield from (f"{name}: a name is missing: {r.said}" for r in own if NAME.match(r.said))
-    if len(edit) > 1 and not edit[0].is_rule():
-        others = {r.where for r in own} - {place(wrong)[0] for wrong in edit}
-        yield from (f"{name}: {other} is refused, and no wrong program changes it" for other in sorted(others))
+    name = f"{edit[0].crate}/{edit[0].edit}"
+    for tried, told in [(edit, said), *(([wrong], alone[wrong.label]) for wrong in edit if wrong.label in alone)]:
+        own = [r for r in told if r.is_own()]
+        yield from (f"{name}: a name is missing: {r.said}" for r in own if NAME.match(r.said))
+        if len(edit) > 1 and not edit[0].is_rule():
+            others = {r.where for r in own} - {place(wrong)[0] for wrong in tried}
+            yield from (f"{name}: {other} is refused, and no wrong program changes it" for other in sorted(others))
     for wrong in edit:
-        if not any(r.is_at(*place(wrong)) for r in own if r.is_fact()):
+        if not is_refused(wrong, said) and not is_refused(wrong, alone.get(wrong.label, [])):
             yield f"{wrong}: no fact of {' '.join(place(wrong))} is refused"
 
 
 def main(words):
-    self_test = words[:1] == ["--self-test"]
-    logs, *crates = words[int(self_test) :] or [""]
-    if self_test and not logs:
+    option = words.pop(0) if words[:1] in (["--try"], ["--self-test"]) else ""
+    logs, *crates = words or [""]
+    if option and not logs:
         print(__doc__, file=sys.stderr)
         return 2
     edits = read_edits()
@@ -292,18 +432,20 @@ def main(words):
     edits = [edit for edit in edits if not crates or edit[0].crate in crates]
     count = sum(map(len, edits))
     told = f"{count} wrong programs and rules in {len(edits)} edits"
+    if option == "--try" and not faults:
+        try_edits(logs, edits)
     if logs and not faults:
-        folders = [Path(logs) / edit[0].crate / edit[0].edit for edit in edits]
-        faults += [f"{folder}: not tried" for folder in folders if not (folder / ".log").exists()]
+        faults += [fault for edit in edits for fault in check_tried(log_of(logs, edit[0]), edit)]
     if logs and not faults:
-        said = [refusals(folder) for folder in folders]
-        faults += [fault for edit, refused in zip(edits, said) for fault in check_log(edit, refused)]
+        said = [said_of(logs, edit) for edit in edits]
+        faults += [fault for edit, both in zip(edits, said) for fault in check_log(edit, *both)]
         told += ", each refused at a fact of its own"
-    if self_test and not faults:
-        for edit, refused in zip(edits, said):
+    if option == "--self-test" and not faults:
+        for edit, (together, alone) in zip(edits, said):
             for wrong in edit:
-                left = [r for r in refused if not r.is_at(*place(wrong))]
-                faults += [f"{wrong}: let pass, and not seen"] * (not any(str(wrong) in fault for fault in check_log(edit, left)))
+                left = [[r for r in told if not r.is_at(*place(wrong))] for told in (together, *alone.values())]
+                seen = any(str(wrong) in fault for fault in check_log(edit, left[0], dict(zip(alone, left[1:]))))
+                faults += [f"{wrong}: let pass, and not seen"] * (not seen)
         pairs = alike(edits)
         faults += [f"{one} and {other}: in one edit, and not seen" for one, other in pairs if not any(check_rules([one, other]))]
         told = f"{count} wrong programs and rules let pass one by one, {len(pairs)} pairs of rules put in one edit, all seen"
