@@ -21,8 +21,9 @@ the rest of the crate again, so one edit may hold several wrong programs:
 Of an edit with several, rt tells only that the crate isn't proved, and of what the prover said it keeps a line. So each of them changes the
 body of one function and nothing else, no two the body of the same: a proof reads its own function's body and the contracts of others. What
 the prover says of a function is then about its own wrong program, and for each wrong program the log must have a refusal there: at a fact,
-and not at a name that is missing, at the proof's shape, where the prover gave up, or only because something else wasn't admitted. No
-function that is as it should be may have a refusal of its own. Every public function has two wrong programs or more.
+and not at a name that is missing, at the proof's shape, where the prover gave up, or only because something else wasn't admitted. (Where
+`search` finds the proof of a function as it should be and none of a wrong one, it often says that it gave up; that is a refusal, but not
+where an answer by hand no longer finds its goal, since search may not know what the answer knew.) No function that is as it should be may have a refusal of its own. Every public function has two wrong programs or more.
 
 The prover leaves the goals of some callers alone while a callee isn't proved. Where the log of an edit with several has no refusal for a
 wrong program, that one is tried alone, in a log of its own.
@@ -54,7 +55,7 @@ BODY = re.compile(r"^(?:.* )?\{\n(?s:.*?)^\}$", re.M)
 # goals of a function comes before the function's line.
 ERROR = re.compile(r"^\S*?(?:proofs|specs)/(\S+?)(?:/(Answers|Invariants|Proof))?\.antt:\d+:\d+: error: `([^`]+)`: (.*(?:\n  .*)*)", re.M)
 UNPROVED = re.compile(r"^note: \S*?src/\S+\.rt:\d+:\d+: it is not proved that .* \(`([^`]+)`\)(.*)$|^fn \w+::(?:\S+::)?(\w+): .*$", re.M)
-UNREAD = re.compile(r"^.*(?::\d+:\d+: error: (?!`[^`]+`: )|\berror\[).*$", re.M)
+UNREAD = re.compile(r"^(?:\./)?(?:src|specs)/\S+:\d+:\d+: error: (?!`[^`]+`: ).*$|^error\b.*$", re.M)
 PASSED_ON = re.compile(r".* was not admitted\b")
 NAME = re.compile(r".* is not in scope:")
 # What a file of definitions or proofs declares, the words of a declaration, and the statement that worked examples hold.
@@ -63,8 +64,9 @@ WORD = re.compile(r"[^\s(){}\[\],;.]+")
 EXAMPLES = re.compile(r"(?:pub )?\S+ : Hold \S+$", re.M)
 # Where a proof no longer fits its function: a goal that isn't there, or an invariant that can't be read.
 SHAPE = re.compile(r"record `\S+`\s+has no field\b|`\S+`: module `\S+`\s+has no\b|module `\S+`\s+has no\b|`\S+` is no (?:goal|step|name)\b")
-# What it says where it neither proves nor refutes.
-GAVE_UP = re.compile(r"`omega`\s+stopped\s+at\s+a\s+bound\b|`\w+`\s+gave\s+up\s+at\s+one\s+of\s+its\s+limits\b")
+# What it says where it neither proves nor refutes, and where that is at a goal for which it looks for a proof itself.
+GAVE_UP = re.compile(r"`omega`\s+stopped\s+at\s+a\s+bound\b")
+UNFOUND = re.compile(r"; `search` gave up at one of its limits$")
 PARTS = ("src", "specs", "proofs")
 
 
@@ -114,8 +116,11 @@ class Refusal(NamedTuple):
     def is_own(self):
         return not PASSED_ON.match(self.said)
 
+    def is_shape(self):
+        return self.file == "Invariants" or bool(SHAPE.match(self.said))
+
     def is_fact(self):
-        return self.is_own() and self.file != "Invariants" and not SHAPE.match(self.said) and not GAVE_UP.search(self.said)
+        return self.is_own() and not self.is_shape() and not GAVE_UP.search(self.said)
 
 
 @cache
@@ -393,7 +398,13 @@ def said_of(logs, edit):
 
 
 def is_refused(wrong, said):
-    return any(r.is_at(*place(wrong)) and r.is_fact() for r in said)
+    """Whether a wrong program or rule is refused at a fact. Where `search` gave up, its goal counts if what it takes the place of was found
+    by `search` too: if it isn't one of those that are answered by hand, and these all stand as they did."""
+    there = [r for r in said if r.is_at(*place(wrong)) and r.is_own()]
+    found = [r for r in there if r.is_fact()]
+    if any(r.is_shape() for r in there):
+        found = [r for r in found if not UNFOUND.search(r.said)]
+    return bool(found)
 
 
 def check_tried(log, wrongs):
