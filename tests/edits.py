@@ -16,14 +16,14 @@ the rest of the crate again, so one edit may hold several wrong programs:
     old: ..
     new: ..
     refused: plant_factor       where it has to be refused, if that isn't the function whose text it changes last: another function, or
-                                a theorem, as Figures: orders_hold
+                                a theorem, as Figures: orders_hold, or one goal of a function, as limit_of: returns-in-Requested
 
 Of an edit with several, rt tells only that the crate isn't proved, and of what the prover said it keeps a line. So each of them changes the
 body of one function and nothing else, no two the body of the same: a proof reads its own function's body and the contracts of others. What
 the prover says of a function is then about its own wrong program, and for each wrong program the log must have a refusal there: at a fact,
 and not at a name that is missing, at the proof's shape, where the prover gave up, or only because something else wasn't admitted. (Where
 `search` finds the proof of a function as it should be and none of a wrong one, it often says that it gave up; that is a refusal, but not
-where an answer by hand no longer finds its goal, since search may not know what the answer knew.) No function that is as it should be may have a refusal of its own. Every public function has two wrong programs or more.
+where an answer by hand no longer finds its goal, since search may not know what the answer knew: there the edit names the goal.) No function that is as it should be may have a refusal of its own. Every public function has two wrong programs or more.
 
 The prover leaves the goals of some callers alone while a callee isn't proved. Where the log of an edit with several has no refusal for a
 wrong program, that one is tried alone, in a log of its own.
@@ -248,7 +248,7 @@ def check_programs(edit):
     for wrong in edit:
         holders = {holder(wrong.crate, change) for change in wrong.changes}
         last = holder(wrong.crate, wrong.changes[-1])
-        if holders != {last} or not last.in_body or wrong.refused:
+        if holders != {last} or not last.in_body or place(wrong)[0] != last.name:
             yield f"{wrong}: it doesn't change the body of one function alone, so it needs an edit of its own"
         if last.name in held:
             yield f"{wrong}: {held[last.name]} changes {last.name} too"
@@ -266,13 +266,13 @@ def check_text(edit):
         yield from check_programs(edit)
 
 
-def check_counts(edits):
-    """The labels that stand twice in a crate, and the public functions that have fewer than two wrong programs."""
+def check_counts(edits, crates):
+    """The labels that stand twice in a crate, and the public functions of crates that have fewer than two wrong programs."""
     wrongs = [wrong for edit in edits for wrong in edit]
     labels = Counter((wrong.crate, wrong.label) for wrong in wrongs)
     yield from (f"{crate}/{label}: {count} times" for (crate, label), count in labels.items() if count > 1)
     places = Counter((wrong.crate, place(wrong)[0]) for wrong in wrongs)
-    for path in sorted(ROOT.glob("crates/*/src/*.rt")):
+    for path in sorted(path for crate in crates for path in ROOT.glob(f"crates/{crate}/src/*.rt")):
         for name in PUBLIC.findall(text_of(path)):
             if places[path.parts[-3], name] < 2:
                 yield f"{path.parts[-3]}::{name}: {places[path.parts[-3], name]} wrong programs"
@@ -438,9 +438,8 @@ def main(words):
     if option and not logs:
         print(__doc__, file=sys.stderr)
         return 2
-    edits = read_edits()
-    faults = [fault for edit in edits for fault in check_text(edit)] + list(check_counts(edits))
-    edits = [edit for edit in edits if not crates or edit[0].crate in crates]
+    edits = [edit for edit in read_edits() if not crates or edit[0].crate in crates]
+    faults = [fault for edit in edits for fault in check_text(edit)] + list(check_counts(edits, crates or ["*"]))
     count = sum(map(len, edits))
     told = f"{count} wrong programs and rules in {len(edits)} edits"
     if option == "--try" and not faults:
