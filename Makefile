@@ -1,5 +1,5 @@
 # make run      build the program and settle the example archive
-# make test     the whole gate: comparisons with the outside program, then every proof from nothing
+# make test     the whole gate: every proof and every must-fail edit, then comparisons with the outside program
 # make lib      libsandegmur, static and shared, its header and pkg-config file in target/lib, proved first
 # make install  program, libraries, header, pages and man page below PREFIX (/usr/local), DESTDIR in front of it; builds what isn't built
 # make compare  200,000 generated calls against the outside program (CALLS=, SEED=)

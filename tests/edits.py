@@ -23,7 +23,8 @@ body of one function and nothing else, no two the body of the same: a proof read
 the prover says of a function is then about its own wrong program, and for each wrong program the log must have a refusal there: at a fact,
 and not at a name that is missing, at the proof's shape, where the prover gave up, or only because something else wasn't admitted. (Where
 `search` finds the proof of a function as it should be and none of a wrong one, it often says that it gave up; that is a refusal, but not
-where an answer by hand no longer finds its goal, since search may not know what the answer knew: there the edit names the goal.) No function that is as it should be may have a refusal of its own. Every public function has two wrong programs or more.
+where an answer by hand no longer finds its goal, since search may not know what the answer knew: there the edit names the goal.) No
+function that is as it should be may have a refusal of its own. Every public function has two wrong programs or more.
 
 The prover leaves the goals of some callers alone while a callee isn't proved. Where the log of an edit with several has no refusal for a
 wrong program, that one is tried alone, in a log of its own.

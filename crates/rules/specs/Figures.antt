@@ -432,16 +432,16 @@ calls =
     )
     ∷ (hosting case_a 1 1 (replicate 23 9) (replicate 24 9), 13 ∷ replicate 47 9)
     -- the program: case a as 01 prints it
-    ∷ (text_of_all (output case_a), ascii "M 1 1 3 224999 6\n_q 1 74999\n_q 2 75000\n_q 3 75000\n")
+    ∷ (text_of_all (output case_a), ascii "M 1 1 3 224999 6\nQ 1 74999\nQ 2 75000\nQ 3 75000\n")
     -- a refused head; no plant
     ∷ (text_of_all (output (take 33 case_a)), ascii "E 0 0 1\n")
     ∷ (text_of_all (output (head 1 0)), [])
     -- a refused measure leads on to the next one, the last measure of a plant to the next plant
-    ∷ (text_of_all (output two_plants), ascii "E 1 1 8\n_m 1 2 1 -25000 4\n_q 1 -25000\n_m 2 1 1 154725 4\n_q 1 154725\n")
+    ∷ (text_of_all (output two_plants), ascii "E 1 1 8\nM 1 2 1 -25000 4\nQ 1 -25000\nM 2 1 1 154725 4\nQ 1 154725\n")
     -- 2 or 3 ends the program after its line: on a measure's own chain, though others would settle, and on the plants' chain
     ∷ (text_of_all (output (with_word two_plants 2 12 2)), ascii "E 1 1 2\n")
     ∷ (text_of_all (output (with_word two_plants 2 12 3)), ascii "E 1 1 3\n")
-    ∷ (text_of_all (output (with_word two_plants 1 4 1)), ascii "E 1 1 8\n_m 1 2 1 -25000 4\n_q 1 -25000\n_e 2 1 2\n")
+    ∷ (text_of_all (output (with_word two_plants 1 4 1)), ascii "E 1 1 8\nM 1 2 1 -25000 4\nQ 1 -25000\nE 2 1 2\n")
     ∷ []
 
 -- the program on long inputs: no plant, in 65,536 bytes; 32 bytes more
