@@ -2,7 +2,7 @@
 """How much the contracts rule out: small changes of the sources, made by rule, that the prover should refuse. Not a part of the gate.
 
     mutants.py FOLDER [MOST]    a copy of the repository whose edits are such changes, MOST (10) of a function or fewer
-    mutants.py                  in that copy, once `rt must-fail` has run there: how many were refused, and each that wasn't
+    mutants.py                  in that copy: has the prover try them, and tells how many were refused, and each that wasn't
 
 A change is a number one more or one less, another end of a comparison, `true` for `false`, a `!` left out, the next refusal or kind of the
 table in the place of one. A line that stands twice in its source is left alone, since an edit couldn't tell which is meant. A change that
@@ -85,16 +85,18 @@ def make(folder, most):
 
 def read():
     told = {"refused": 0, "refused at the shape of its proof": 0, "not refused": 0, "not tried": 0}
-    for edit in edits.read_edits():
-        logs = edits.ROOT / "target/must-fail" / edit[0].crate / edit[0].edit
-        tried = (logs / ".log").exists() and "\nlogic=" in edits.text_of(logs / ".log")
-        refusals = edits.refusals(logs) if tried else []
+    logs, tries = edits.ROOT / "target/must-fail", edits.read_edits()
+    edits.try_edits(logs, tries)
+    for edit in tries:
+        tried = "\nlogic=" in edits.text_of(edits.log_of(logs, edit[0]))
+        together, alone = edits.said_of(logs, edit)
         for wrong in edit:
             function, _ = edits.place(wrong)
-            own = [r for r in refusals if r.where == function and r.is_own()]
-            if any(r.is_fact() for r in own):
+            said = [*together, *alone.get(wrong.label, [])]
+            if edits.is_refused(wrong, said):
                 told["refused"] += 1
             else:
+                own = [r for r in said if r.where == function and r.is_own()]
                 result = "refused at the shape of its proof" if own else "not refused" if tried else "not tried"
                 told[result] += 1
                 print(f"{wrong.crate}::{function} {result}: {wrong.changes[0].old.strip()}  =>  {wrong.changes[0].new.strip()}")
