@@ -2,7 +2,11 @@
 """How much the contracts rule out: small changes of the sources, made by rule, that the prover should refuse. Not a part of the gate.
 
     mutants.py FOLDER [MOST]    a copy of the repository whose edits are such changes, MOST (10) of a function or fewer
+<<<<<<< HEAD
     mutants.py                  in that copy: has `rt check` try each edit, and tells how many changes were refused, and each that wasn't
+=======
+    mutants.py                  in that copy: has the prover try them, and tells how many were refused, and each that wasn't
+>>>>>>> 542e0b353c5bff5cc53c3818ba5d3c2b9f0c3d58
 
 A change is a number one more or one less, another end of a comparison, `true` for `false`, a `!` left out, the next refusal or kind of the
 table in the place of one. A line that stands twice in its source is left alone, since an edit couldn't tell which is meant. A change that
@@ -108,6 +112,7 @@ def result_of(verdict):
 
 
 def read():
+<<<<<<< HEAD
     told = dict.fromkeys(("refused", "not refused", "not tried"), 0)
     for edit in edits.read_edits():
         found = verdicts(edit[0].crate, edit)
@@ -118,6 +123,24 @@ def read():
             if result != "refused":
                 change = wrong.changes[0]
                 print(f"{wrong.crate}::{function} {result}: {change.old.strip()}  =>  {change.new.strip()}", flush=True)
+=======
+    told = {"refused": 0, "refused at the shape of its proof": 0, "not refused": 0, "not tried": 0}
+    logs, tries = edits.ROOT / "target/must-fail", edits.read_edits()
+    edits.try_edits(logs, tries)
+    for edit in tries:
+        tried = "\nlogic=" in edits.text_of(edits.log_of(logs, edit[0]))
+        together, alone = edits.said_of(logs, edit)
+        for wrong in edit:
+            function, _ = edits.place(wrong)
+            said = [*together, *alone.get(wrong.label, [])]
+            if edits.is_refused(wrong, said):
+                told["refused"] += 1
+            else:
+                own = [r for r in said if r.where == function and r.is_own()]
+                result = "refused at the shape of its proof" if own else "not refused" if tried else "not tried"
+                told[result] += 1
+                print(f"{wrong.crate}::{function} {result}: {wrong.changes[0].old.strip()}  =>  {wrong.changes[0].new.strip()}")
+>>>>>>> 542e0b353c5bff5cc53c3818ba5d3c2b9f0c3d58
     print(", ".join(f"{count} {result}" for result, count in told.items()))
 
 
