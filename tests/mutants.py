@@ -2,11 +2,7 @@
 """How much the contracts rule out: small changes of the sources, made by rule, that the prover should refuse. Not a part of the gate.
 
     mutants.py FOLDER [MOST]    a copy of the repository whose edits are such changes, MOST (10) of a function or fewer
-<<<<<<< HEAD
-    mutants.py                  in that copy: has `rt check` try each edit, and tells how many changes were refused, and each that wasn't
-=======
     mutants.py                  in that copy: has the prover try them, and tells how many were refused, and each that wasn't
->>>>>>> 542e0b353c5bff5cc53c3818ba5d3c2b9f0c3d58
 
 A change is a number one more or one less, another end of a comparison, `true` for `false`, a `!` left out, the next refusal or kind of the
 table in the place of one. A line that stands twice in its source is left alone, since an edit couldn't tell which is meant. A change that
@@ -22,9 +18,6 @@ import edits
 
 COMPARED = {"<": "<=", "<=": "<", "==": "!=", "!=": "=="}
 NEGATED = {"true": "false", "false": "true"}
-# What `rt check` says of a function, and how that begins where its own proof holds, whether or not what it calls is proved.
-VERDICT = re.compile(r"^fn (\S+): (.*)$", re.M)
-HOLDS = re.compile(r"proved$|no proof: it calls\b")
 
 
 def table(name):
@@ -90,40 +83,7 @@ def make(folder, most):
     print(f"{folder}: {count} changes")
 
 
-def verdicts(crate, edit):
-    """What rt says of each function of a crate with an edit in it: the words behind the function's name."""
-    path = edits.ROOT / f"crates/{crate}/src/lib.rt"
-    source = path.read_text(encoding="utf-8")
-    text = source
-    for change in (change for wrong in edit for change in wrong.changes):
-        text = text.replace(change.old, change.new, 1)
-    path.write_text(text, encoding="utf-8")
-    try:
-        said = subprocess.run(["rt", "check"], cwd=path.parent.parent, capture_output=True, text=True).stdout
-    finally:
-        path.write_text(source, encoding="utf-8")
-    return {m[1].rpartition("::")[2]: m[2] for m in VERDICT.finditer(said)}
-
-
-def result_of(verdict):
-    if verdict is None:
-        return "not tried"
-    return "not refused" if HOLDS.match(verdict) else "refused"
-
-
 def read():
-<<<<<<< HEAD
-    told = dict.fromkeys(("refused", "not refused", "not tried"), 0)
-    for edit in edits.read_edits():
-        found = verdicts(edit[0].crate, edit)
-        for wrong in edit:
-            function, _ = edits.place(wrong)
-            result = result_of(found.get(function))
-            told[result] += 1
-            if result != "refused":
-                change = wrong.changes[0]
-                print(f"{wrong.crate}::{function} {result}: {change.old.strip()}  =>  {change.new.strip()}", flush=True)
-=======
     told = {"refused": 0, "refused at the shape of its proof": 0, "not refused": 0, "not tried": 0}
     logs, tries = edits.ROOT / "target/must-fail", edits.read_edits()
     edits.try_edits(logs, tries)
@@ -140,7 +100,6 @@ def read():
                 result = "refused at the shape of its proof" if own else "not refused" if tried else "not tried"
                 told[result] += 1
                 print(f"{wrong.crate}::{function} {result}: {wrong.changes[0].old.strip()}  =>  {wrong.changes[0].new.strip()}")
->>>>>>> 542e0b353c5bff5cc53c3818ba5d3c2b9f0c3d58
     print(", ".join(f"{count} {result}" for result, count in told.items()))
 
 
