@@ -49,12 +49,12 @@ from threading import local
 from typing import NamedTuple
 
 ROOT = Path(__file__).resolve().parent.parent
-ITEM = re.compile(r'^(?:#\[.*\]\n)*(?:pub )?(?:extern "C" )?(fn|const|struct|enum) (\w+)', re.M)
-PUBLIC = re.compile(r'^pub (?:extern "C" )?fn (\w+)', re.M)
-BODY = re.compile(r"^(?:.* )?\{\n(?s:.*?)^\}$", re.M)
+# An item of a source, or a function of an impl, by its indent, kind and name; the public functions.
+ITEM = re.compile(r'^(?:#\[.*\]\n)*(    (?=(?:pub )?fn ))?(?:pub )?(?:extern "C" )?(fn|const|struct|enum) (\w+)', re.M)
+PUBLIC = re.compile(r'^(?:    )?pub (?:extern "C" )?fn (\w+)', re.M)
 # What the prover says of a proof of ours, and of one that it makes itself; in the words of the kit that README names. What it says of the
 # goals of a function comes before the function's line.
-ERROR = re.compile(r"^\S*?(?:proofs|specs)/(\S+?)(?:/(Answers|Invariants|Proof))?\.antt:\d+:\d+: error: `([^`]+)`: (.*(?:\n  .*)*)", re.M)
+ERROR = re.compile(r"^\S*?(?:proofs|specs)/(?:[^\s/]+/)*?([^\s/]+?)(?:/(Answers|Invariants|Proof))?\.antt:\d+:\d+: error: `([^`]+)`: (.*(?:\n  .*)*)", re.M)
 UNPROVED = re.compile(r"^note: \S*?src/\S+\.rt:\d+:\d+: it is not proved that .* \(`([^`]+)`\)(.*)$|^fn \w+::(?:\S+::)?(\w+): .*$", re.M)
 UNREAD = re.compile(r"^(?:\./)?(?:src|specs)/\S+:\d+:\d+: error: (?!`[^`]+`: ).*$|^error\b.*$", re.M)
 PASSED_ON = re.compile(r".* was not admitted\b")
@@ -158,6 +158,12 @@ def item_at(source, at):
     return next((item for item in reversed(list(ITEM.finditer(source))) if item.start() <= at), None)
 
 
+def body_of(source, function):
+    """The body of a function, with its braces."""
+    indent = function[1] or ""
+    return re.compile(rf"^{indent}(?:\S.* )?\{{\n(?s:.*?)^{indent}\}}$", re.M).search(source, function.start())
+
+
 def holder(crate, change):
     """What holds the text that a change is made to."""
     source = text_of(ROOT / "crates" / crate / change.file)
@@ -165,8 +171,7 @@ def holder(crate, change):
     item = item_at(source, at)
     if change.is_of_rules() or item is None:
         return Holder(0, "", "", False)
-    body = BODY.search(source, item.start())
-    return Holder(item.start(), item[1], item[2], item[1] == "fn" and body.start() < at < body.end())
+    return Holder(item.start(), item[2], item[3], item[2] == "fn" and body_of(source, item).start() < at < body_of(source, item).end())
 
 
 def place(wrong):

@@ -21,7 +21,8 @@ NEGATED = {"true": "false", "false": "true"}
 
 
 def table(name):
-    return re.findall(r"^pub const (\w+)", edits.text_of(edits.ROOT / f"crates/rules/src/{name}.rt"), re.M)
+    """The kinds or the refusals, in order: the constants or the variants of a file."""
+    return re.findall(r"^(?:pub const|    (?=[A-Z]\w+ = \d+,$)) ?(\w+)", edits.text_of(edits.ROOT / f"crates/rules/src/{name}.rt"), re.M)
 
 
 def changed(line):
@@ -38,8 +39,8 @@ def changed(line):
         yield put(m, 0, NEGATED[m[0]])
     for m in re.finditer(r"!(?=[a-z])", line):
         yield put(m, 0, "")
-    for m in re.finditer(r"\b(refusal|kind)::(\w+)", line):
-        names = table(m[1])
+    for m in re.finditer(r"\b(Refusal|kind)::([A-Z]\w+)", line):
+        names = table(m[1].lower())
         yield put(m, 2, names[(names.index(m[2]) + 1) % len(names)])
 
 
@@ -47,8 +48,8 @@ def changes_of(source, most):
     """For each function its changes, a line and what it becomes; those of a long function from all over its body."""
     found = []
     for item in edits.ITEM.finditer(source):
-        if item[1] == "fn":
-            lines = edits.BODY.search(source, item.start())[0].splitlines()[1:-1]
+        if item[2] == "fn":
+            lines = edits.body_of(source, item)[0].splitlines()[1:-1]
             changes = [(line, new) for line in lines if "//" not in line and source.count(line) == 1 for new in changed(line)]
             found.append([changes[i * len(changes) // most] for i in range(most)] if len(changes) > most else changes)
     return found

@@ -234,8 +234,6 @@ class Tree:
             (r"(NUMBER) stored calls", self.text("crates/cases/stdout").count("\n")),
             (r"in the gate seed (NUMBER),", seed),
             (r"(NUMBER) different archives", part("Makefile", r"^ARCHIVES \?= (\d+)$")),
-            (r"(NUMBER) bytes of room", part("crates/program/specs/Due.antt", r"^pub record Room .*?(\d+) ≤ length")),
-            (r"list of (NUMBER) places", part("crates/program/specs/Due.antt", r"^pub record Room .*?≡ (\d+)")),
         ]
 
         def written(right):

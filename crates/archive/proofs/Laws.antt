@@ -1,5 +1,5 @@
 -- What each answer of the code is, and what it says, over plain variables.
-use mathlib.Core.Path.{◌≡◌, refl, ◌∙◌, ap}
+use mathlib.Core.Path.{◌≡◌, sym, ◌∙◌}
 use mathlib.Core.Bool.{true, false}
 use mathlib.Core.List.{List}
 use Prim.Native.Nat.{ℕ, ◌+◌, ◌*◌, ◌-◌, ◌/◌, ◌≤◌, ◌<◌}
@@ -7,67 +7,51 @@ use native.Mathlib.Omega.{arith}
 use lib.ListN.{length, take, drop}
 use borrow.Author.Tests.{le-leb, lt-leb, lt-ltb, le-ltb}
 use denote.Ref.{Bor}
-use Rattle.rules.specs.Outcome.{Outcome, refused, given, ◌>>◌, require}
+use Rattle.rules.specs.Outcome.{refused, given, ◌>>◌, require}
 use Rattle.rules.specs.Refusals.{not_archive}
 use Rattle.rules.specs.Archive.{link_at, record_at, is_whole, is_text, used_of}
 use Rattle.rules.specs.Filing.{is_shown, shown}
 use Rattle.rules.specs.Promises.{Shows}
 use Rattle.rules.proofs.Chains.{record_part}
 use Rattle.rules.proofs.Sound.{used_head, head_room}
-use Rattle.archive.specs.declared.Head.{Head}
-use Rattle.archive.specs.declared.Head.TheVariants as head
-use Rattle.archive.specs.Answers.{head_answer}
 
 -- ---- the head
 
 module _ (a : List ℕ) where
-  pub head_size : is_whole (length a) ≡ false → head.Refused not_archive ≡ head_answer (used_of a)
+  pub head_size : is_whole (length a) ≡ false → refused not_archive ≡ used_of a
   unfolding used_of ◌>>◌ require
   head_size s = rw s
 
   module _ (size : is_whole (length a) ≡ true) where
-    pub head_text : is_text (record_at a 0) ≡ false → head.Refused not_archive ≡ head_answer (used_of a)
+    pub head_text : is_text (record_at a 0) ≡ false → refused not_archive ≡ used_of a
     unfolding used_of ◌>>◌ require
     head_text t = rw (size, t)
 
     module _ (text : is_text (record_at a 0) ≡ true) (u : ℕ) (count : u ≡ link_at (record_at a 0) 4) where
-      pub head_none : u < 1 → head.Refused not_archive ≡ head_answer (used_of a)
+      pub head_none : u < 1 → refused not_archive ≡ used_of a
       unfolding used_of ◌>>◌ require
       head_none h = rw (size, text, ← count, lt-leb 1 u h)
 
-      pub head_over : 1 ≤ u → length a / 32 < u → head.Refused not_archive ≡ head_answer (used_of a)
+      pub head_over : 1 ≤ u → length a / 32 < u → refused not_archive ≡ used_of a
       unfolding used_of ◌>>◌ require
       head_over g h = rw (size, text, ← count, le-leb 1 u g, lt-leb u (length a / 32) h)
 
-      pub head_used : 1 ≤ u → u ≤ length a / 32 → head.Used u ≡ head_answer (used_of a)
+      pub head_used : 1 ≤ u → u ≤ length a / 32 → given u ≡ used_of a
       unfolding used_of ◌>>◌ require
       head_used g h = rw (size, text, ← count, le-leb 1 u g, le-leb u (length a / 32) h)
 
-  -- what an answer Used u says
+  -- what a U that was read says
   pub record Opened (u : ℕ) : Type 0 where
     pub is : used_of a ≡ given u
     pub some : 1 ≤ u
     pub few : u < 65536
     pub within : 32 * u ≤ length a
 
-  module _ (answer : Head) (e : answer ≡ head_answer (used_of a)) where
-    pub opened : (u : ℕ) → answer ≡ head.Used u → Opened u
-    opened u t = go (used_of a) refl e
-      where
-        go : (o : Outcome ℕ) → used_of a ≡ o → answer ≡ head_answer o → Opened u
-        go (refused k) f b = let z : ◌≡◌ {A = ℕ} 0 1 = cc in absurd (omega arith)
-        go (given v) f b =
-            let i : v ≡ u = cc in
-            let h = used_head a v f in
-            let r = head_room a v h in
-            record { is = f ∙ ap given i; some = omega arith; few = omega arith; within = omega arith }
-
-    pub unopened : (n : ℕ) → answer ≡ head.Refused n → used_of a ≡ refused n
-    unopened n t = go (used_of a) e
-      where
-        go : (o : Outcome ℕ) → answer ≡ head_answer o → o ≡ refused n
-        go (refused k) b = cc
-        go (given v) b = let z : ◌≡◌ {A = ℕ} 0 1 = cc in absurd (omega arith)
+  pub opened : (u : ℕ) → given u ≡ used_of a → Opened u
+  opened u e =
+      let h = used_head a u (sym e) in
+      let r = head_room a u h in
+      record { is = sym e; some = omega arith; few = omega arith; within = omega arith }
 
 -- ---- show
 

@@ -1,203 +1,157 @@
 -- What each check of audit answers, over plain variables: checks one after another, links, records, and the table of marks.
-use mathlib.Core.Path.{◌≡◌, refl, sym, ◌∙◌, ap, subst}
-use mathlib.Core.Bool.{Bool, true, false, cond, ◌&&◌, ◌||◌, and-false, or-true}
-use mathlib.Core.List.{List, [], ◌∷◌, ◌++◌}
-use mathlib.Core.Logic.{◌⊎◌, inl}
-use Prim.Native.Nat.{ℕ, zero, suc, ◌+◌, ◌*◌, ◌≤◌, ◌<◌}
-use native.Mathlib.Omega.{arith}
+use Rattle.std.proofs.Common.{◌≡◌, ℕ, zero, suc, ◌+◌, ◌*◌, ◌-◌, ◌≤◌, ◌<◌, Bool, true, false, cond, ◌&&◌, ◌||◌, List, [], ◌∷◌, ◌++◌, length, take, drop, get_or, set, eqb, MatchBool, Result, Ok, Err, refl, sym, ◌∙◌, ap, subst, arith, length-take, length-drop}
+use Rattle.std.specs.List.{AllWithin, HoldsAt}
+use Rattle.std.proofs.lemmas.List.{get_or-take}
+use Rattle.std.proofs.lemmas.Grind.{get_or_after_one}
+use mathlib.Core.Bool.{and-false, or-true}
+use mathlib.Core.Logic.{◌⊎◌, inl, inr}
 use native.Mathlib.Numerals.{add-one}
-use lib.Dec.{eqb}
-use lib.ListN.{length, drop, get_or, set, replicate, length-set, length-replicate, get_or-replicate}
+use lib.ListN.{length-set, length-replicate, get_or-replicate}
 use lib.Seq.{get_or-set_same, get_or-set_other, set-get_or}
 use borrow.Author.Tests.{eq-eqb, ne_eqb, eqb-true, eqb-false, lt-ltb, le-ltb}
-use Rattle.rules.specs.Outcome.{Outcome, refused, given, ◌>>◌, number_of}
+use Rattle.rules.specs.Outcome.{Outcome, refused, ◌>>◌}
+use Rattle.rules.specs.Results.{number}
 use Rattle.rules.specs.Numbers.{keep}
-use Rattle.rules.specs.Archive.{link_at, kind_of, record_at, Entry, follow}
-use Rattle.rules.specs.Links.{link, is_kind, links_at, stands_at, link_places, namers}
-use Rattle.rules.specs.Audit.{link_checked, record_checked, named_once}
-use Rattle.rules.specs.Refusals.{wrong_kind}
+use Rattle.rules.specs.Archive.{link_at, kind_of, record_at, follow}
+use Rattle.rules.specs.Links.{Link, link, is_kind, links_at, owned_at, link_places, namers}
+use Rattle.rules.specs.Audit.{link_checked, records_checked, named_once}
+use Rattle.rules.specs.declared.refusal.Refusal.{Refusal}
+use Rattle.rules.specs.declared.refusal.Refusal.TheVariants.{WrongKind}
 use Rattle.rules.proofs.Bytes.{link_of}
-use Rattle.rules.proofs.Runs.{follow_says}
-use Rattle.rules.proofs.AuditSteps.{follow_number, link_zero, link_stops, link_leads, unknown_checked, links_checked_lem}
+use Rattle.rules.proofs.AuditSteps.{link_zero, link_stops, link_leads, unknown_checked, links_checked_lem}
+use Rattle.rules.proofs.Owners.{known_links}
 use Rattle.rules.proofs.Sound.{fine}
-use Rattle.record.proofs.Slots.{Here, Past}
-use Rattle.chains.proofs.Laws.{NoAt}
-use Rattle.chains.specs.declared.Link as answer
-use Rattle.chains.specs.declared.Link.TheVariants as answers
-use Rattle.chains.specs.Answers.{link_answer, refusal_of}
+use Rattle.record.proofs.Linked.{Here, Past}
+use Rattle.chains.proofs.Laws.{Met}
 use Rattle.audit.specs.Marks.{capped, marked, tally, no_marks, marked_once, Checked, LinkChecked, LinksChecked, RecordChecked, RecordsChecked}
 
 -- ---- checks one after another
 
 module _ (archive : List ℕ) where
-  pub checked_refused : (o : Outcome (Unit {0})) (places marks later : List ℕ) (n : ℕ) → o ≡ refused n → (n ≡ 0 → ⊥) → Checked archive o places marks later n
-  checked_refused o places marks later n e h = record {
-    answers = ap number_of (sym e);
-    passes = λ z. absurd (h z);
-    marks_are = λ z. absurd (h z);
-  }
+  checked_refused : {o : Outcome (Unit {0})} {places marks later : List ℕ} {e : Refusal} → o ≡ refused (number e) → Checked archive o places marks later (Err e)
+  checked_refused r = record { answers = sym r; marks_are = tt }
 
-  pub checked_none : (marks : List ℕ) → Checked archive fine [] marks marks 0
+  checked_none : (marks : List ℕ) → Checked archive fine [] marks marks (Ok tt)
   unfolding tally
-  checked_none marks = record { answers = refl; passes = λ z. refl; marks_are = λ z. refl }
+  checked_none marks = record { answers = refl; marks_are = refl }
 
   tally_append : (marks ps qs : List ℕ) → tally archive marks (ps ++ qs) ≡ tally archive (tally archive marks ps) qs
   unfolding tally
   tally_append marks [] qs = refl
   tally_append marks (p ∷ ps) qs = tally_append (cond (eqb (link_at archive p) 0) marks (marked marks (link_at archive p))) ps qs
 
-  module _ {o : Outcome (Unit {0})} {ps marks mid : List ℕ} {m : ℕ} (first : Checked archive o ps marks mid m) where
-    pub refused_by : (m ≡ 0 → ⊥) → o ≡ refused m
-    refused_by h = go o first.answers
-      where
-        go : (o : Outcome (Unit {0})) → m ≡ number_of o → o ≡ refused m
-        go (refused n) e = ap refused (sym e)
-        go (given x) e = absurd (h e)
+  -- a check that is refused leaves the rest out
+  then_stops : (o k : Outcome (Unit {0})) {n : ℕ} → o ≡ refused n → (o >> k) ≡ refused n
+  unfolding ◌>>◌
+  then_stops o k e = rw e refl
 
-    -- a check that is refused leaves the rest out
-    pub then_stops : (k : Outcome (Unit {0})) {qs later : List ℕ} → (m ≡ 0 → ⊥) → Checked archive (o >> k) qs marks later m
-    unfolding ◌>>◌
-    then_stops k {qs} {later} h = checked_refused (o >> k) qs marks later m (rw (refused_by h)) h
-
-    -- after one that passes comes the next
-    pub then_goes : {k : Outcome (Unit {0})} {qs later : List ℕ} {n : ℕ} → m ≡ 0 → Checked archive k qs mid later n → Checked archive (o >> k) (ps ++ qs) marks later n
-    unfolding ◌>>◌
-    then_goes {k} {qs} {later} {n} z next =
-        let p : (o >> k) ≡ k = ap (λ (x : Outcome (Unit {0})). x >> k) (first.passes z) in
-        record {
-          answers = next.answers ∙ ap number_of (sym p);
-          passes = λ y. p ∙ next.passes y;
-          marks_are = λ y. next.marks_are y ∙ ap (λ (l : List ℕ). tally archive l qs) (first.marks_are z) ∙ sym (tally_append marks ps qs);
-        }
-
-  pub checked_as : (o k : Outcome (Unit {0})) (ps qs marks later : List ℕ) (n : ℕ) → o ≡ k → ps ≡ qs → Checked archive k qs marks later n → Checked archive o ps marks later n
-  checked_as o k ps qs marks later n e f c = subst (λ x. Checked archive x ps marks later n) (sym e) (subst (λ (l : List ℕ). Checked archive k l marks later n) (sym f) c)
+  -- after one that passes comes the next
+  then_goes : {o k : Outcome (Unit {0})} {ps qs marks mid later : List ℕ} (r : Result (Unit {0}) Refusal) → Checked archive o ps marks mid (Ok tt)
+      → Checked archive k qs mid later r → Checked archive (o >> k) (ps ++ qs) marks later r
+  unfolding ◌>>◌
+  then_goes {qs} {marks} (Ok done) first next = record {
+    answers = rw (← first.answers) next.answers;
+    marks_are = next.marks_are ∙ ap (λ (l : List ℕ). tally archive l qs) first.marks_are ∙ sym (tally_append marks _ qs);
+  }
+  then_goes (Err e) first next = record { answers = rw (← first.answers) next.answers; marks_are = tt }
 
   -- ---- a link
 
-  module _ (used n at to : ℕ) (room : at + 4 ≤ 32) (v : ℕ) (read : v ≡ link_at (record_at archive n) at) (x : answer.Link) (says : x ≡ link_answer v (follow archive used to n v)) where
-    stands : v ≡ link_at archive (32 * n + at)
-    stands = read ∙ link_of archive n at room
+  module _ (used n at to : ℕ) (room : at + 4 ≤ 32) {v : ℕ} (read : v ≡ link_at (record_at archive n) at) where
+    stands : link_at archive (32 * n + at) ≡ v
+    stands = sym (read ∙ link_of archive n at room)
 
-    -- the record that the link leads to
-    pub record Led (m : ℕ) : Type 0 where
-      pub is : link_at archive (32 * n + at) ≡ m
-      pub some : m ≡ 0 → ⊥
-      pub below : m < used
-      pub checked : link_checked archive used n (link at to) ≡ given tt
-
-    pub led : (m : ℕ) → x ≡ answers.At m → Led m
-    led m e = go v (follow archive used to n v) refl refl (sym says ∙ e)
-      where
-        go : (w : ℕ) (o : Outcome Entry) → v ≡ w → follow archive used to n v ≡ o → link_answer w o ≡ answers.At m → Led m
-        go zero o i f q = let z : ◌≡◌ {A = ℕ} 0 1 = cc in absurd (omega arith)
-        go (suc w) (refused k) i f q = let z : ◌≡◌ {A = ℕ} 0 1 = cc in absurd (omega arith)
-        go (suc w) (given k) i f q =
-            let s = follow_says archive used to n v k f in
-            let j : v ≡ m = ap (λ k. k.number) s.3 ∙ number k.number q in
-            record {
-              is = sym stands ∙ j;
-              some = λ z. omega (arith, i, j);
-              below = omega (arith, s.1, j);
-              checked = link_leads archive used n (link at to) k (λ z. omega (arith, i, stands)) (ap (follow archive used to n) (sym stands) ∙ f);
-            }
-          where
-            number : (a : ℕ) → answers.At a ≡ answers.At m → a ≡ m
-            number a r = cc
-
-    -- zero, or refused
-    pub link_answered : (marks : List ℕ) (r : ℕ) → r ≡ refusal_of x 0 → NoAt x → LinkChecked archive used n (link at to) marks marks r
+    pub link_none : (marks : List ℕ) → v ≡ 0 → LinkChecked archive used n (link at to) marks marks (Ok tt)
     unfolding tally
-    link_answered marks r number none =
-        subst (LinkChecked archive used n (link at to) marks marks) (sym (number ∙ ap (λ a. refusal_of a 0) says)) (go v (follow archive used to n v) refl refl says)
-      where
-        go : (w : ℕ) (o : Outcome Entry) → v ≡ w → follow archive used to n v ≡ o → x ≡ link_answer w o → LinkChecked archive used n (link at to) marks marks (refusal_of (link_answer w o) 0)
-        go zero o i f q =
-            let z : link_at archive (32 * n + at) ≡ 0 = sym stands ∙ i in
-            record {
-              answers = ap number_of (sym (link_zero archive used n (link at to) z));
-              passes = λ y. link_zero archive used n (link at to) z;
-              marks_are = λ y. sym (rw (eq-eqb (link_at archive (32 * n + at)) 0 z));
-            }
-        go (suc w) (refused k) i f q =
-            checked_refused (link_checked archive used n (link at to)) (stands_at n (link at to) ∷ []) marks marks k
-            (link_stops archive used n (link at to) k (λ z. omega (arith, i, stands)) (ap (follow archive used to n) (sym stands) ∙ f))
-            (follow_number archive used to n v k f)
-        go (suc w) (given k) i f q = absurd (subst NoAt q none)
+    link_none marks z =
+        let e = stands ∙ z in
+        record { answers = sym (link_zero archive used n (link at to) e); marks_are = sym (rw (eq-eqb (link_at archive (32 * n + at)) 0 e) refl) }
 
     -- one that leads to a record, which is marked
-    pub link_marked : (marks later : List ℕ) (m : ℕ) → x ≡ answers.At m → later ≡ marked marks m → LinkChecked archive used n (link at to) marks later 0
+    pub link_marked : (marks : List ℕ) {m : ℕ} → Met archive used to n v m → LinkChecked archive used n (link at to) marks (marked marks m) (Ok tt)
     unfolding tally
-    link_marked marks later m e f =
-        let l = led m e in
+    link_marked marks {m} met =
+        let e : link_at archive (32 * n + at) ≡ m = stands ∙ met.link in
+        let some : m ≡ 0 → ⊥ = λ z. omega (arith, met.rises, z) in
         record {
-          answers = ap number_of (sym l.checked);
-          passes = λ z. l.checked;
-          marks_are = λ z. f ∙ sym (rw (l.is, ne_eqb m 0 l.some));
+          answers = sym (link_leads archive used n (link at to) _ (λ z. some (sym e ∙ z)) (ap (follow archive used to n) stands ∙ met.is));
+          marks_are = sym (rw (e, ne_eqb m 0 some) refl);
         }
 
-  -- ---- the links of a record
+    pub link_refused : (marks : List ℕ) {e : Refusal} → (v ≡ 0 → ⊥) × (follow archive used to n v ≡ refused (number e))
+        → LinkChecked archive used n (link at to) marks marks (Err e)
+    link_refused marks r =
+        checked_refused (link_stops archive used n (link at to) _ (λ z. r.0 (sym stands ∙ z)) (ap (follow archive used to n) stands ∙ r.1))
+
+  -- ---- some links of a record
 
   -- what is left from link i on completes the check
-  pub record LinksLeft (used n : ℕ) (start : List ℕ) (i : ℕ) (marks : List ℕ) : Type 0 where
-    pub then : (later : List ℕ) (r : ℕ) → LinksChecked archive used n (drop i (links_at archive n)) marks later r → LinksChecked archive used n (links_at archive n) start later r
+  pub record LinksLeft (used n : ℕ) (ls : List Link) (start : List ℕ) (i : ℕ) (marks : List ℕ) : Type 0 where
+    pub then : (later : List ℕ) (r : Result (Unit {0}) Refusal) → LinksChecked archive used n (drop i ls) marks later r → LinksChecked archive used n ls start later r
 
-  module _ {used n : ℕ} {start : List ℕ} where
-    pub links_all : LinksLeft used n start 0 start
-    links_all = record { then = λ later r c. c }
+  module _ {used n : ℕ} {ls : List Link} {start : List ℕ} {i : ℕ} {marks : List ℕ} (left : LinksLeft used n ls start i marks) where
+    pub links_none : Past ls i → LinksChecked archive used n ls start marks (Ok tt)
+    links_none p = left.then marks (Ok tt) (rw p.from (checked_none marks))
 
-    module _ {i : ℕ} {marks : List ℕ} (left : LinksLeft used n start i marks) where
-      pub links_none : Past (links_at archive n) i → LinksChecked archive used n (links_at archive n) start marks 0
-      links_none p = left.then marks 0 (rw p.from (checked_none marks))
+    module _ {at to : ℕ} {later : List ℕ} (h : Here ls i at to) where
+      pub links_stop : {e : Refusal} → LinkChecked archive used n (link at to) marks later (Err e) → LinksChecked archive used n ls start later (Err e)
+      links_stop {e} c = left.then later (Err e) (rw h.from (checked_refused (then_stops (link_checked archive used n (link at to)) _ (sym c.answers))))
 
-      module _ {at to : ℕ} {later : List ℕ} {r : ℕ} (h : Here (links_at archive n) i at to) (c : LinkChecked archive used n (link at to) marks later r) where
-        pub links_stop : (r ≡ 0 → ⊥) → LinksChecked archive used n (links_at archive n) start later r
-        links_stop some = left.then later r (rw h.from (then_stops c _ some))
-
-        pub links_on : r ≡ 0 → LinksLeft used n start (i + 1) later
-        links_on z = record { then = λ last s k. left.then last s (rw h.from (then_goes c z k)) }
+      pub links_on : LinkChecked archive used n (link at to) marks later (Ok tt) → LinksLeft used n ls start (i + 1) later
+      links_on c = record { then = λ last r k. left.then last r (rw h.from (then_goes r c k)) }
 
   -- ---- a record
 
-  module _ (used n : ℕ) {marks later : List ℕ} where
-    pub unknown_done : 1 ≤ n → is_kind (kind_of (record_at archive n)) ≡ false → RecordChecked archive used n marks later wrong_kind
-    unknown_done some k = checked_refused _ _ marks later wrong_kind (unknown_checked archive used n (λ z. omega arith) k) (λ z. omega arith)
+  links_done : (used n : ℕ) {ls : List Link} {marks later : List ℕ} {r : Result (Unit {0}) Refusal} → links_at archive n ≡ ls
+      → (n ≡ 0) ⊎ (is_kind (kind_of (record_at archive n)) ≡ true) → LinksChecked archive used n ls marks later r → RecordChecked archive used n marks later r
+  links_done used n {ls} {marks} {later} {r} e k c =
+      let f : LinksChecked archive used n (links_at archive n) marks later r = rw e c in
+      record { answers = f.answers ∙ sym (links_checked_lem archive used n k); marks_are = f.marks_are }
 
-    pub record_done : {r : ℕ} → (n ≡ 0) ⊎ (is_kind (kind_of (record_at archive n)) ≡ true) → LinksChecked archive used n (links_at archive n) marks later r
-        → RecordChecked archive used n marks later r
-    record_done k c = checked_as _ _ _ _ marks later _ (links_checked_lem archive used n k) refl c
+  pub head_done : (used : ℕ) {marks later : List ℕ} {r : Result (Unit {0}) Refusal} → LinksChecked archive used 0 (owned_at archive 0) marks later r
+      → RecordChecked archive used 0 marks later r
+  unfolding links_at owned_at
+  head_done used c = links_done used 0 refl (inl refl) c
+
+  module _ (used n : ℕ) (some : 1 ≤ n) where
+    pub unknown_done : {marks later : List ℕ} → is_kind (kind_of (record_at archive n)) ≡ false → RecordChecked archive used n marks later (Err WrongKind)
+    unknown_done k = checked_refused (unknown_checked archive used n (λ z. omega arith) k)
+
+    module _ {kind : ℕ} (kind_is : kind ≡ kind_of (record_at archive n)) (known : is_kind kind ≡ true) where
+      known_kind : is_kind (kind_of (record_at archive n)) ≡ true
+      known_kind = ap is_kind (sym kind_is) ∙ known
+
+      links_are : links_at archive n ≡ link 4 kind ∷ owned_at archive n
+      unfolding links_at owned_at
+      links_are = rw (ne_eqb n 0 (λ z. omega arith), kind_is) (known_links (record_at archive n) known_kind)
+
+      pub next_stops : {marks later : List ℕ} {e : Refusal} → LinkChecked archive used n (link 4 kind) marks later (Err e) → RecordChecked archive used n marks later (Err e)
+      next_stops c = links_done used n links_are (inr known_kind) (checked_refused (then_stops (link_checked archive used n (link 4 kind)) _ (sym c.answers)))
+
+      pub record_done : {marks mid later : List ℕ} {r : Result (Unit {0}) Refusal} → LinkChecked archive used n (link 4 kind) marks mid (Ok tt)
+          → LinksChecked archive used n (owned_at archive n) mid later r → RecordChecked archive used n marks later r
+      record_done {r} c rest = links_done used n links_are (inr known_kind) (then_goes r c rest)
 
   -- ---- all records
 
-  module _ (used : ℕ) {start : List ℕ} where
-    none_checked : RecordsChecked archive used 0 start start 0
+  pub records_none : (used : ℕ) (start : List ℕ) → RecordsChecked archive used 0 start start (Ok tt)
+  unfolding link_places
+  records_none used start = checked_none start
+
+  module _ (used n : ℕ) {start marks later : List ℕ} (before : RecordsChecked archive used n start marks (Ok tt)) where
+    pub records_more : RecordChecked archive used n marks later (Ok tt) → RecordsChecked archive used (n + 1) start later (Ok tt)
     unfolding link_places
-    none_checked = checked_none start
+    records_more here = rw (add-one n) (then_goes (Ok tt) before here)
 
-    module _ (n : ℕ) {marks later : List ℕ} {r : ℕ} (before : RecordsChecked archive used n start marks 0) (here : RecordChecked archive used n marks later r) where
-      one_more : RecordsChecked archive used (suc n) start later r
-      unfolding link_places
-      one_more = then_goes before refl here
-
-      pub records_more : r ≡ 0 → RecordsChecked archive used (n + 1) start later 0
-      records_more z = rw (add-one n) (subst (RecordsChecked archive used (suc n) start later) z one_more)
-
-      -- a refused record refuses all
-      pub records_stop : (m : ℕ) → n < m → (r ≡ 0 → ⊥) → RecordsChecked archive used m start later r
-      records_stop zero h s = absurd (omega arith)
-      records_stop (suc m) h s = go (eqb n m) refl (λ k. records_stop m k s)
-        where
-          go : (t : Bool) → eqb n m ≡ t → (n < m → RecordsChecked archive used m start later r) → RecordsChecked archive used (suc m) start later r
-          go true e f = subst (λ (k : ℕ). RecordsChecked archive used (suc k) start later r) (eqb-true n m e) one_more
-          go false e f = then_stops (f (omega (arith, eqb-false n m e))) (record_checked archive used m) s
-
-    -- the head, which has no kind, comes first
-    module _ {later : List ℕ} {r : ℕ} (head : LinksChecked archive used 0 (links_at archive 0) start later r) where
-      pub head_passes : r ≡ 0 → RecordsChecked archive used 1 start later 0
-      head_passes z = records_more 0 none_checked (record_done used 0 (inl refl) head) z
-
-      pub head_stops : 1 ≤ used → (r ≡ 0 → ⊥) → RecordsChecked archive used used start later r
-      head_stops h s = records_stop 0 none_checked (record_done used 0 (inl refl) head) used (omega arith) s
+    -- a refused record refuses all
+    pub records_stop : {e : Refusal} → RecordChecked archive used n marks later (Err e) → (m : ℕ) → n < m → RecordsChecked archive used m start later (Err e)
+    unfolding link_places
+    records_stop here zero h = absurd (omega arith)
+    records_stop {e} here (suc m) h = go (eqb n m) refl (records_stop here m)
+      where
+        go : (t : Bool) → eqb n m ≡ t → (n < m → RecordsChecked archive used m start later (Err e)) → RecordsChecked archive used (suc m) start later (Err e)
+        go true i f = subst (λ (k : ℕ). RecordsChecked archive used (suc k) start later (Err e)) (eqb-true n m i) (then_goes (Err e) before here)
+        go false i f = checked_refused (then_stops (records_checked archive used m) _ (sym (f (omega (arith, eqb-false n m i))).answers))
 
 -- ---- marks
 
@@ -262,16 +216,9 @@ raised_once zero = refl
 raised_once (suc zero) = refl
 raised_once (suc (suc k)) = ap (λ (m : ℕ). eqb m 1) (two_stays k) ∙ sym (ne_eqb (suc (suc k)) 1 (λ e. omega arith))
 
--- of the table as the code makes it: by a law, since to count 65,536 places takes long
-pub marks_long : length (replicate {A = ℕ} 65536 0) ≡ 65536
-marks_long = length-replicate {A = ℕ} 65536 0
-
 pub no_marks_lem : length no_marks ≡ 65536
 unfolding no_marks
-no_marks_lem = marks_long
-
-pub marks_enough : {used size : ℕ} → used < 65536 → 65536 ≡ size → used ≤ size
-marks_enough few e = omega arith
+no_marks_lem = length-replicate {A = ℕ} 65536 0
 
 zero_mark : (n : ℕ) → n < 65536 → get_or no_marks n 0 ≡ 0
 unfolding no_marks
@@ -296,17 +243,16 @@ once_same archive used (suc k) h = rw (once_same archive used k (omega arith)) (
     go true e = rw e
     go false e = rw (mark_once archive used k (eqb-false k 0 e) (omega arith))
 
--- the pass over the marks
+-- ---- the pass over the marks
 
-pub once_none : (marks : List ℕ) → marked_once marks 1 ≡ true
+once_all : (marks : List ℕ) (n : ℕ) → ((i : ℕ) → 1 ≤ i → i < n → get_or marks i 0 ≡ 1) → marked_once marks n ≡ true
 unfolding marked_once
-once_none marks = refl
+once_all marks zero h = refl
+once_all marks (suc zero) h = refl
+once_all marks (suc (suc n)) h =
+    rw (once_all marks (suc n) (λ i k l. h i k (omega arith)), eq-eqb (get_or marks (suc n) 0) 1 (h (suc n) (omega arith) (omega arith))) (or-true (eqb (suc n) 0))
 
-pub once_more : (marks : List ℕ) (n : ℕ) → marked_once marks n ≡ true → get_or marks n 0 ≡ 1 → marked_once marks (n + 1) ≡ true
-unfolding marked_once
-once_more marks n e f = rw (add-one n, e, eq-eqb (get_or marks n 0) 1 f) (or-true (eqb n 0))
-
-pub once_stop : (marks : List ℕ) (n m : ℕ) → 1 ≤ n → (get_or marks n 0 ≡ 1 → ⊥) → n < m → false ≡ marked_once marks m
+once_stop : (marks : List ℕ) (n m : ℕ) → 1 ≤ n → (get_or marks n 0 ≡ 1 → ⊥) → n < m → false ≡ marked_once marks m
 unfolding marked_once
 once_stop marks n zero z f h = absurd (omega arith)
 once_stop marks n (suc m) z f h = go (eqb n m) refl (once_stop marks n m z f)
@@ -316,3 +262,20 @@ once_stop marks n (suc m) z f h = go (eqb n m) refl (once_stop marks n m z f)
         subst (λ (x : ℕ). false ≡ (marked_once marks x && (eqb x 0 || eqb (get_or marks x 0) 1))) (eqb-true n m i)
         (sym (rw (ne_eqb n 0 (λ e. omega arith), ne_eqb (get_or marks n 0) 1 f) (and-false (marked_once marks n))))
     go false i g = rw (← g (omega (arith, eqb-false n m i)))
+
+module _ (marks : List ℕ) (used : ℕ) (fits : used ≤ length marks) where
+  abbrev rest : List ℕ
+  rest = take (used - 1) (drop 1 marks)
+
+  size : length rest ≡ used - 1
+  size = let d = length-drop 1 marks in omega (arith, length-take (used - 1) (drop 1 marks))
+
+  at : (k : ℕ) → k < used - 1 → (i : ℕ) → 1 + k ≡ i → get_or rest k 0 ≡ get_or marks i 0
+  at k h i e = get_or-take (used - 1) (drop 1 marks) k 0 h ∙ get_or_after_one marks k 0 ∙ ap (λ (i : ℕ). get_or marks i 0) e
+
+  pub once_by : (r : Bool) → MatchBool r (AllWithin (λ m. m ≡ 1) rest 0 (length rest)) ((k : ℕ) × (k < length rest) × HoldsAt (λ m. m ≡ 1 → ⊥) rest k)
+      → r ≡ marked_once marks used
+  once_by true h =
+      sym (once_all marks used (λ i some below. sym (at (i - 1) (omega arith) i (omega arith)) ∙ h (i - 1) 0 (omega arith) (omega (arith, size))))
+  once_by false h =
+      once_stop marks (1 + h.0) used (omega arith) (λ e. h.2 0 (at h.0 (omega (arith, size, h.1)) (1 + h.0) refl ∙ e)) (omega (arith, size, h.1))

@@ -1,5 +1,5 @@
 -- The basis by technology and variant, from the answers of the functions that the code has for it.
-use mathlib.Core.Path.{◌≡◌, refl, sym, ◌∙◌, ap, subst}
+use mathlib.Core.Path.{◌≡◌, refl, sym, ◌∙◌, subst}
 use mathlib.Core.Bool.{Bool, true, false, false≢true}
 use mathlib.Core.List.{List}
 use Prim.Native.Nat.{ℕ, ◌≤◌}
@@ -14,11 +14,8 @@ use Rattle.rules.specs.declared.Variant.TheVariants.{Spitz as spitz, Pauschal as
 use Rattle.rules.specs.Terms.{Point}
 use Rattle.rules.specs.Settle.{Place, Basis, points_of, befores_of, marked, wind_basis, pauschal_basis, solar_basis, basis_by}
 use Rattle.units.specs.declared.Watt.{Watt}
-use Rattle.curve.specs.declared.Curve.{Curve}
-use Rattle.curve.specs.Tables.{Tabulates}
-use Rattle.points.specs.declared.CurveAnswer.{CurveAnswer}
-use Rattle.points.specs.declared.CurveAnswer.TheVariants as answer
-use Rattle.points.specs.Answers.{CurveRead}
+use Rattle.points.specs.declared.PlantCurve.{PlantCurve}
+use Rattle.points.specs.Answers.{PointsGiven}
 use Rattle.terms.specs.declared.Terms.{Terms}
 use Rattle.reference.specs.declared.Reference.{Reference}
 use Rattle.reference.specs.declared.Reference.TheVariants.{ByFactor, AsPlanned}
@@ -26,59 +23,35 @@ use Rattle.reference.specs.References.{Natural}
 use Rattle.comparison.specs.declared.Purpose.{Purpose}
 use Rattle.comparison.specs.declared.Purpose.TheVariants.{Four, First, All}
 use Rattle.comparison.specs.Sums.{first_four, first_one, every_one, Ready}
-use Rattle.basis.specs.declared.Based.{Based}
-use Rattle.basis.specs.declared.Based.TheVariants.{On, Refused}
+use Rattle.std.specs.Prelude.{Result}
+use Rattle.rules.specs.declared.refusal.Refusal.{Refusal}
+use Rattle.basis.specs.declared.Basis as coded
 use Rattle.basis.specs.declared.Ground.TheVariants.{Comparison, ByTerms}
-use Rattle.basis.specs.Bases.{needs_curve, ground_of, ForCurve, Lent, compared_by, Compared, Finds}
-use Rattle.basis.proofs.Answers.{finds_refused, found_on, wind_is, pauschal_is, solar_is}
+use Rattle.basis.specs.Bases.{needs_curve, ground_of, ForCurve, Lent, Compared, Found, Finds}
+use Rattle.basis.proofs.Answers.{found_on, wind_is, pauschal_is, solar_is}
+
+-- a finding of the same outcome
+by_book : {o p : Outcome Basis} (powers : List ℕ) (r : Result coded.Basis Refusal) → o ≡ p → Finds p powers r → Finds o powers r
+by_book powers r e f = rw e f
 
 -- ---- wind Spitz
-
--- the points by the answer that the code was given
-pub record Points (o : Outcome (List Point)) (curve : Curve) (count : ℕ) (powers : List ℕ) : Type 0 where
-  pub points : List Point
-  pub are : o ≡ given points
-  pub count_is : length points ≡ count
-  pub tabulates : Tabulates curve powers points
-
-module _ (o : Outcome (List Point)) (r : CurveAnswer) (powers : List ℕ) (h : CurveRead o r powers) where
-  no_points_lem : (n : ℕ) → r ≡ answer.Refused n → o ≡ refused n
-  no_points_lem n t = go o h
-    where
-      go : (o : Outcome (List Point)) → CurveRead o r powers → o ≡ refused n
-      go (refused k) e = let f : k ≡ n = cc in ap refused f
-      go (given points) e = let z : ◌≡◌ {A = ℕ} 0 1 = cc e.is in absurd (omega arith)
-
-  pub some_points : (curve : Curve) (count : ℕ) → r ≡ answer.Read curve count → Points o curve count powers
-  some_points curve count t = go o h
-    where
-      go : (o : Outcome (List Point)) → CurveRead o r powers → Points o curve count powers
-      go (refused k) e = let z : ◌≡◌ {A = ℕ} 0 1 = cc in absurd (omega arith)
-      go (given points) e =
-          let c : e.curve ≡ curve = cc e.is in
-          record { points = points; are = refl; count_is = cc e.is; tabulates = subst (λ (x : Curve). Tabulates x powers points) c e.tabulates }
 
 on_points : (archive : List ℕ) (place : Place) (points : List Point) → points_of archive place ≡ given points
     → basis_by wind spitz archive place ≡ (befores_of archive place >>= wind_basis place.terms.nominal_power points)
 unfolding basis_by ◌>>=◌
 on_points archive place points e = rw e
 
-module _ (archive : List ℕ) (place : Place) (r : CurveAnswer) (powers : List ℕ) (h : CurveRead (points_of archive place) r powers) where
-  pub wind_refused : (n : ℕ) → r ≡ answer.Refused n → Finds (basis_by wind spitz archive place) powers (Refused n)
+module _ (archive : List ℕ) (place : Place) where
+  pub wind_refused : {n : ℕ} → points_of archive place ≡ refused n → basis_by wind spitz archive place ≡ refused n
   unfolding basis_by ◌>>=◌
-  wind_refused n t =
-      let e : basis_by wind spitz archive place ≡ refused n = rw (no_points_lem (points_of archive place) r powers h n t) in
-      finds_refused (basis_by wind spitz archive place) powers (Refused n) n e refl
+  wind_refused e = rw e refl
 
-  pub wind_on : (curve : Curve) (count : ℕ) → r ≡ answer.Read curve count → (pn : Watt) → or_zero pn.0 ≡ place.terms.nominal_power
-      → (based : Based) → Compared (Four pn curve) archive place powers count based → Finds (basis_by wind spitz archive place) powers based
-  wind_on curve count t pn e based c =
-      let p = some_points (points_of archive place) r powers h curve count t in
-      let is = on_points archive place p.points p.are ∙ wind_is place.terms.nominal_power p.points archive place in
+  pub wind_on : (read : PlantCurve) (powers : List ℕ) → PointsGiven (points_of archive place) read powers → (pn : Watt) → or_zero pn.0 ≡ place.terms.nominal_power
+      → (based : Result coded.Basis Refusal) → Compared (Four pn read.curve) archive place powers read.links based → Finds (basis_by wind spitz archive place) powers based
+  wind_on read powers p pn e based c =
+      let is = on_points archive place p.points p.is ∙ wind_is place.terms.nominal_power p.points archive place in
       let f = c.by (first_four (or_zero pn.0) p.points) (record { points = p.points; is = refl; tabulates = p.tabulates }) in
-      let g = subst (λ (k : ℕ). Finds (compared_by (first_four (or_zero pn.0) p.points) archive place k) powers based) (sym p.count_is) f in
-      let j = subst (λ (n : ℕ). Finds (compared_by (first_four n p.points) archive place (length p.points)) powers based) e g in
-      subst (λ (x : Outcome Basis). Finds x powers based) (sym is) j
+      by_book powers based is (rw (e, p.count) at f)
 
 -- ---- every pairing
 
@@ -89,7 +62,7 @@ is_wind wind pauschal e = absurd (false≢true e)
 is_wind solar v e = absurd (false≢true e)
 is_wind other v e = absurd (false≢true e)
 
-pub by_told : (archive : List ℕ) (place : Place) (powers : List ℕ) {x t : Technology} {y v : Variant} (based : Based) → x ≡ t → y ≡ v
+pub by_told : (archive : List ℕ) (place : Place) (powers : List ℕ) {x t : Technology} {y v : Variant} (based : Result coded.Basis Refusal) → x ≡ t → y ≡ v
     → Finds (basis_by t v archive place) powers based → Finds (basis_by x y archive place) powers based
 by_told archive place powers based t v f = rw (t, v) f
 
@@ -109,7 +82,7 @@ ground_ready t v pn (Four p curve) powers e = absurd (no_four t v e)
 ground_ready t v pn First powers e = tt
 ground_ready t v pn All powers e = tt
 
-module _ (archive : List ℕ) (place : Place) (powers : List ℕ) (r : Based) where
+module _ (archive : List ℕ) (place : Place) (powers : List ℕ) (r : Result coded.Basis Refusal) where
   -- on the before-quarters
   module _ (purpose : Purpose) (c : Compared purpose archive place powers 0 r) where
     first : First ≡ purpose → Finds (pauschal_basis archive place) powers r
@@ -133,26 +106,26 @@ module _ (archive : List ℕ) (place : Place) (powers : List ℕ) (r : Based) wh
     on_comparison other pauschal pn n e = first (cc)
 
 module _ (archive : List ℕ) (place : Place) (powers : List ℕ) (pn : Watt) (natural : Natural pn.0) (is : or_zero pn.0 ≡ place.terms.nominal_power) where
-  factor_finds : Finds (basis_by solar pauschal archive place) powers (On (record { reference = ByFactor pn; links = 0 }))
+  factor_finds : Found (basis_by solar pauschal archive place) powers (record { reference = ByFactor pn; links = 0 })
   unfolding basis_by
-  factor_finds = found_on powers _ (record { is = rw is; natural = natural }) refl
+  factor_finds = found_on powers _ refl (record { is = rw is; natural = natural }) refl
 
-  planned_finds : Finds (basis_by other spitz archive place) powers (On (record { reference = AsPlanned; links = 0 }))
+  planned_finds : Found (basis_by other spitz archive place) powers (record { reference = AsPlanned; links = 0 })
   unfolding basis_by
-  planned_finds = found_on powers _ refl refl
+  planned_finds = found_on powers _ refl refl refl
 
-  on : (t : Technology) (v : Variant) {x y : Reference} → x ≡ y → Finds (basis_by t v archive place) powers (On (record { reference = x; links = 0 }))
-      → Finds (basis_by t v archive place) powers (On (record { reference = y; links = 0 }))
-  on t v e f = subst (λ (z : Reference). Finds (basis_by t v archive place) powers (On (record { reference = z; links = 0 }))) e f
+  on : (t : Technology) (v : Variant) {x y : Reference} → x ≡ y → Found (basis_by t v archive place) powers (record { reference = x; links = 0 })
+      → Found (basis_by t v archive place) powers (record { reference = y; links = 0 })
+  on t v e f = subst (λ (z : Reference). Found (basis_by t v archive place) powers (record { reference = z; links = 0 })) e f
 
   -- on the terms alone
   pub on_terms : (t : Technology) (v : Variant) (reference : Reference) → ground_of t v pn ≡ ByTerms reference
-      → Finds (basis_by t v archive place) powers (On (record { reference = reference; links = 0 }))
-  on_terms wind v reference e = let z : ◌≡◌ {A = ℕ} 0 1 = cc in absurd (omega arith)
-  on_terms solar spitz reference e = let z : ◌≡◌ {A = ℕ} 0 1 = cc in absurd (omega arith)
+      → Found (basis_by t v archive place) powers (record { reference = reference; links = 0 })
+  on_terms wind v reference e = cc
+  on_terms solar spitz reference e = cc
   on_terms solar pauschal reference e = on solar pauschal (cc) factor_finds
   on_terms other spitz reference e = on other spitz (cc) planned_finds
-  on_terms other pauschal reference e = let z : ◌≡◌ {A = ℕ} 0 1 = cc in absurd (omega arith)
+  on_terms other pauschal reference e = cc
 
 -- ---- whether a curve is needed, by what is lent
 

@@ -1,4 +1,5 @@
 -- The rule book's basis from where a walk stands: what is gathered so far, and what the rest of the chain adds.
+use Rattle.std.specs.Prelude.{Option, None, Some}
 use mathlib.Core.Path.{◌≡◌, refl, sym, ◌∙◌, ap}
 use mathlib.Core.Bool.{Bool, true, false, cond, ◌&&◌, and-false}
 use mathlib.Core.List.{List, [], ◌∷◌, map}
@@ -153,50 +154,53 @@ require_refused true n k e = ap refused e
 require_refused false n k e = refl
 
 module _ (choice : Choice) (extra : ℕ) where
-  -- 8, 9, then the basis; `extra` links were followed before
+  -- 9, then the basis; `extra` links were followed before
+  abbrev from_of : ℕ → Option Sums → List Entry → Outcome Basis
+  from_of count None es = refused out_of_range
+  from_of count (Some s) es = require (all (λ e. mark_allowed e.bytes) es) out_of_range >> rest choice (extra + (count + length es)) s (marked es)
+
+  -- 8, before them
   abbrev pub from : Walk → List Entry → Outcome Basis
-  from w es =
-      require (leb (w.count + length es) 96) bad_count
-      >> (require (w.fine && all (λ e. mark_allowed e.bytes) es) out_of_range >> rest choice (extra + (w.count + length es)) w.sums (marked es))
+  from w es = require (leb (w.count + length es) 96) bad_count >> from_of w.count w.sums es
 
   module _ (w : Walk) (e : Entry) (es : List Entry) where
     more : w.count + suc (length es) ≡ w.count + 1 + length es
     more = one_more w.count (length es)
 
-    from_taken : w.fine ≡ true → mark_allowed e.bytes ≡ true → is_marked e.bytes ≡ true → (o : Outcome Sums) → taken choice w.sums (before_of e.bytes) ≡ o → Nine o
+    from_taken : (s : Sums) → w.sums ≡ Some s → mark_allowed e.bytes ≡ true → is_marked e.bytes ≡ true → (o : Outcome Sums) → taken choice s (before_of e.bytes) ≡ o → Nine o
         → from w (e ∷ es) ≡ from (with_taken w o) es
     unfolding ◌>>=◌ ◌>>◌ require
-    from_taken f a m (refused n) t h =
-        rw (f, a, m, more, rest_turn choice (extra + (w.count + 1 + length es)) w.sums (before_of e.bytes) (marked es), t)
+    from_taken s f a m (refused n) t h =
+        rw (f, a, m, more, rest_turn choice (extra + (w.count + 1 + length es)) s (before_of e.bytes) (marked es), t)
         (ap (λ (o : Outcome Basis). require (leb (w.count + 1 + length es) 96) bad_count >> o) (require_refused (all (λ e. mark_allowed e.bytes) es) out_of_range n h))
-    from_taken f a m (given s) t h =
-        rw (f, a, m, more, rest_turn choice (extra + (w.count + 1 + length es)) w.sums (before_of e.bytes) (marked es), t)
+    from_taken s f a m (given t) i h =
+        rw (f, a, m, more, rest_turn choice (extra + (w.count + 1 + length es)) s (before_of e.bytes) (marked es), i)
 
     from_turn : from w (e ∷ es) ≡ from (stepped_by choice w e) es
     unfolding stepped ◌>>◌ require
-    from_turn = go w.fine refl (mark_allowed e.bytes) refl (is_marked e.bytes) refl (ltb w.count 96) refl
+    from_turn = go w.sums refl (mark_allowed e.bytes) refl (is_marked e.bytes) refl (ltb w.count 96) refl
       where
-        go : (f : Bool) → w.fine ≡ f → (a : Bool) → mark_allowed e.bytes ≡ a → (m : Bool) → is_marked e.bytes ≡ m → (l : Bool) → ltb w.count 96 ≡ l
+        go : (x : Option Sums) → w.sums ≡ x → (a : Bool) → mark_allowed e.bytes ≡ a → (m : Bool) → is_marked e.bytes ≡ m → (l : Bool) → ltb w.count 96 ≡ l
             → from w (e ∷ es) ≡ from (stepped_by choice w e) es
-        go false f a g m h l k = rw (f, more)
-        go true f false g m h l k = rw (f, g, more)
-        go true f true g false h l k = rw (f, g, h, more)
-        go true f true g true h false k = rw (f, g, h, k, more, lt-leb (w.count + 1 + length es) 96 (omega (arith, ltb-false w.count 96 k)))
-        go true f true g true h true k =
-            from_taken f g h (taken choice w.sums (before_of e.bytes)) refl (nine choice w.sums (before_of e.bytes))
+        go None f a g m h l k = rw (f, more)
+        go (Some s) f false g m h l k = rw (f, g, more)
+        go (Some s) f true g false h l k = rw (f, g, h, more)
+        go (Some s) f true g true h false k = rw (f, g, h, k, more, lt-leb (w.count + 1 + length es) 96 (omega (arith, ltb-false w.count 96 k)))
+        go (Some s) f true g true h true k =
+            from_taken s f g h (taken choice s (before_of e.bytes)) refl (nine choice s (before_of e.bytes))
             ∙ rw (f, g, h, k)
 
   from_end : (w : Walk) → from w [] ≡ (passed w >>= λ v. rest choice (extra + v.count) v.sums [])
   unfolding passed ◌>>=◌ ◌>>◌ require
-  from_end w = go (leb w.count 96) refl w.fine refl
+  from_end w = go (leb w.count 96) refl w.sums refl
     where
       none : w.count + 0 ≡ w.count
       none = omega arith
 
-      go : (l : Bool) → leb w.count 96 ≡ l → (f : Bool) → w.fine ≡ f → from w [] ≡ (passed w >>= λ v. rest choice (extra + v.count) v.sums [])
-      go false k f e = rw (none, k)
-      go true k false e = rw (none, k, e)
-      go true k true e = rw (none, k, e)
+      go : (l : Bool) → leb w.count 96 ≡ l → (x : Option Sums) → w.sums ≡ x → from w [] ≡ (passed w >>= λ v. rest choice (extra + v.count) v.sums [])
+      go false k x e = rw (none, k)
+      go true k None e = rw (none, k, e)
+      go true k (Some s) e = rw (none, k, e, none) refl
 
   pub from_is : (w : Walk) (es : List Entry) → from w es ≡ (passed (gathered (stepped_by choice) w es) >>= λ v. rest choice (extra + v.count) v.sums [])
   from_is w [] = from_end w

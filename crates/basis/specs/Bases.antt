@@ -1,8 +1,10 @@
 -- What the code's answer for a basis stands for, and what it asks of the powers that are lent to it.
-use Rattle.std.specs.Prelude.{ℕ, ◌+◌, ◌*◌, ◌≤◌, ◌≡◌, Bool, true, false, List, eqb, leb, ltb, length}
+use Rattle.std.specs.Prelude.{ℕ, ◌+◌, ◌*◌, ◌≤◌, ◌≡◌, Bool, true, false, List, eqb, leb, ltb, length, Result, Ok, Err}
 use Rattle.std.proofs.Math.IntN.{sub_ℕ}
 use Rattle.rules.specs.Outcome.{Outcome, refused, given, ◌>>=◌, ◌>>◌, require}
 use Rattle.rules.specs.Refusals.{too_few_usable, divisor_zero}
+use Rattle.rules.specs.Results.{number}
+use Rattle.rules.specs.declared.refusal.Refusal.{Refusal}
 use Rattle.rules.specs.declared.Technology.{Technology}
 use Rattle.rules.specs.declared.Technology.TheVariants.{Wind as wind, Solar as solar, Other as other}
 use Rattle.rules.specs.declared.Variant.{Variant}
@@ -21,8 +23,6 @@ use Rattle.comparison.specs.Sums as choices
 use Rattle.comparison.specs.Sums.{Choice, first_four, first_one, every_one, power_bias}
 use Rattle.comparison.specs.Walks.{gathered_of}
 use Rattle.basis.specs.declared.Basis.{Basis}
-use Rattle.basis.specs.declared.Based.{Based}
-use Rattle.basis.specs.declared.Based.TheVariants.{On, Refused}
 use Rattle.basis.specs.declared.Ground.{Ground}
 use Rattle.basis.specs.declared.Ground.TheVariants.{Comparison, ByTerms}
 
@@ -52,15 +52,15 @@ pub record Stands (basis : Basis) (powers : List ℕ) (b : settle.Basis) : Type 
   pub means : Means basis.reference powers b.reference
   pub links_are : basis.links ≡ b.links
 
-pub record Found (b : settle.Basis) (powers : List ℕ) (r : Based) : Type 0 where
-  pub basis : Basis
-  pub is : r ≡ On basis
-  pub stands : Stands basis powers b
+pub record Found (o : Outcome settle.Basis) (powers : List ℕ) (basis : Basis) : Type 0 where
+  pub book : settle.Basis
+  pub is : o ≡ given book
+  pub stands : Stands basis powers book
 
 -- the basis, or a refusal
-abbrev pub Finds : Outcome settle.Basis → List ℕ → Based → Type 0
-Finds (refused n) powers r = r ≡ Refused n
-Finds (given b) powers r = Found b powers r
+abbrev pub Finds : Outcome settle.Basis → List ℕ → Result Basis Refusal → Type 0
+Finds o powers (Ok basis) = Found o powers basis
+Finds o powers (Err e) = o ≡ refused (number e)
 
 -- ---- on the before-quarters
 
@@ -79,7 +79,7 @@ basis_from_sums every_one links s = do
   given (record { reference = on_irradiance (sub_ℕ s.a (power_bias * s.used)) s.b; links = links })
 
 -- for whatever choice that a purpose and the powers beside it stand for
-pub record OnSums (purpose : Purpose) (s : Sums) (links : ℕ) (r : Based) : Type 0 where
+pub record OnSums (purpose : Purpose) (s : Sums) (links : ℕ) (r : Result Basis Refusal) : Type 0 where
   pub on : (powers : List ℕ) (choice : Choice) → choices.Means purpose powers choice → Finds (basis_from_sums choice links s) powers r
 
 -- Pn, where a purpose has it, is 0 or more
@@ -90,7 +90,7 @@ PnNatural All = Unit {0}
 
 -- the walk along the chain, and what follows from it; so many links were followed before
 abbrev pub compared_by : Choice → List ℕ → settle.Place → ℕ → Outcome settle.Basis
-compared_by choice archive place before = gathered_of choice archive place >>= λ walk. basis_from_sums choice (before + walk.count) walk.sums
+compared_by choice archive place before = gathered_of choice archive place >>= λ g. basis_from_sums choice (before + g.count) g.sums
 
 -- what a comparison asks for
 pub record ComparisonReady (purpose : Purpose) (powers : List ℕ) (before : ℕ) : Type 0 where
@@ -98,7 +98,7 @@ pub record ComparisonReady (purpose : Purpose) (powers : List ℕ) (before : ℕ
   pub few : before ≤ 65535
 
 -- the answer, for whatever choice that the purpose stands for
-pub record Compared (purpose : Purpose) (archive : List ℕ) (place : settle.Place) (powers : List ℕ) (before : ℕ) (r : Based) : Type 0 where
+pub record Compared (purpose : Purpose) (archive : List ℕ) (place : settle.Place) (powers : List ℕ) (before : ℕ) (r : Result Basis Refusal) : Type 0 where
   pub by : (choice : Choice) → choices.Means purpose powers choice → Finds (compared_by choice archive place before) powers r
 
 -- ---- off the curve

@@ -15,11 +15,11 @@ on date until = record { date = date; until = until }
 -- ---- a quarter later
 
 module _ (c : Clock) (index : ℕ) where
-  pub same_day : index < c.until → c ≡ clock_after c index
+  same_day : index < c.until → c ≡ clock_after c index
   unfolding clock_after
   same_day k = rw (lt-ltb index c.until k)
 
-  pub new_day : {date : Date} → date ≡ day_after c.date → c.until ≤ index → on date (c.until + 96) ≡ clock_after c index
+  new_day : {date : Date} → date ≡ day_after c.date → c.until ≤ index → on date (c.until + 96) ≡ clock_after c index
   unfolding clock_after
   new_day e k = rw (le-ltb index c.until k, e)
 

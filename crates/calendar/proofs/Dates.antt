@@ -1,40 +1,28 @@
 -- Dates as the code finds them: leap years and months by tests, the year by division, the month by leafing through the year.
 use mathlib.Core.Path.{◌≡◌, refl, sym, ◌∙◌, ap}
-use mathlib.Core.Bool.{Bool, true, false, cond}
+use mathlib.Core.Bool.{true, false}
 use mathlib.Core.List.{List, [], ◌∷◌}
 use mathlib.Core.Logic.{◌⊎◌, inl, inr}
 use Prim.Native.Nat.{ℕ, zero, suc, ◌+◌, ◌*◌, ◌-◌, ◌/◌, ◌%◌, ◌≤◌, ◌<◌, ◌^◌}
 use native.Mathlib.Omega.{arith}
-use borrow.Author.Tests.{eq-eqb, ne_eqb, le-leb, lt-leb, lt-ltb, le-ltb}
-use lib.Dec.{eqb}
+use borrow.Author.Tests.{le-leb, lt-leb, lt-ltb, le-ltb}
 use lib.ListN.{drop}
 use Rattle.rules.specs.Numbers.{sum}
 use Rattle.rules.specs.declared.Date.{Date}
 use Rattle.rules.specs.Calendar.{is_leap_year, year_length, month_lengths, month_length, dated, in_months, in_year, days_of_years, date_of, next_first, day_after}
-use Rattle.rules.proofs.Calendar.{Later, months_later, months_sum, year_long, years_more, years_days, in_year_lem, after_month_end}
+use Rattle.rules.proofs.Calendar.{Later, months_later, months_sum, year_long, years_more, years_days, in_year_lem, after_month_end, after_in_month}
 use Rattle.calendar.specs.Clocks.{Passed}
-
--- ---- leap years
-
-module _ (year : ℕ) where
-  pub not_fourth : (year % 4 ≡ 0 → ⊥) → false ≡ is_leap_year year
-  unfolding is_leap_year
-  not_fourth h = rw (ne_eqb (year % 4) 0 h)
-
-  pub not_hundredth : year % 4 ≡ 0 → (year % 100 ≡ 0 → ⊥) → true ≡ is_leap_year year
-  unfolding is_leap_year
-  not_hundredth f h = rw (eq-eqb (year % 4) 0 f, ne_eqb (year % 100) 0 h)
-
-  pub hundredth : year % 4 ≡ 0 → year % 100 ≡ 0 → eqb (year % 400) 0 ≡ is_leap_year year
-  unfolding is_leap_year
-  hundredth f h = rw (eq-eqb (year % 4) 0 f, eq-eqb (year % 100) 0 h)
 
 -- ---- months
 
 module _ (year month : ℕ) where
-  pub february : month ≡ 2 → (leap : Bool) → is_leap_year year ≡ leap → cond leap 29 28 ≡ month_length year month
+  pub long_february : month ≡ 2 → true ≡ is_leap_year year → 29 ≡ month_length year month
   unfolding month_length month_lengths
-  february e leap f = rw (e, f)
+  long_february e f = rw (e, ← f)
+
+  pub short_february : month ≡ 2 → false ≡ is_leap_year year → 28 ≡ month_length year month
+  unfolding month_length month_lengths
+  short_february e f = rw (e, ← f)
 
 -- April, June, September and November
 abbrev pub Thirty : ℕ → Type 0
@@ -63,6 +51,8 @@ thirty_one year (suc (suc (suc (suc (suc (suc (suc (suc (suc (suc zero))))))))))
 thirty_one year (suc (suc (suc (suc (suc (suc (suc (suc (suc (suc (suc zero))))))))))) low high two four = absurd (four (inr (inr (inr refl))))
 thirty_one year (suc (suc (suc (suc (suc (suc (suc (suc (suc (suc (suc (suc zero)))))))))))) low high two four = refl
 thirty_one year (suc (suc (suc (suc (suc (suc (suc (suc (suc (suc (suc (suc (suc m))))))))))))) low high two four = absurd (omega arith)
+
+pub ruleset months = (long_february, short_february, thirty, thirty_one)
 
 -- ---- the year, by division
 
@@ -135,18 +125,11 @@ pub record Leafing (year day month length left : ℕ) : Type 0 where
   pub same : in_year year day ≡ in_months year month (length ∷ later) left
 
 module _ (year day : ℕ) where
-  pub january : 1 ≤ day → day ≤ year_length year → Leafing year day 1 31 day
-  unfolding month_lengths
+  pub january : 1 ≤ day → day ≤ year_length year → Leafing year day 1 (month_length year 1) day
+  unfolding month_lengths month_length
   january some few = record { later = drop 1 (month_lengths year); are = months_later year; fits = omega (arith, months_sum year); some = some; same = refl }
 
   module _ {month length left : ℕ} (h : Leafing year day month length left) where
-    pub month_early : length < left → month + 1 ≤ 12
-    month_early k = by h.later h.are h.fits
-      where
-        by : (later : List ℕ) → Later year month (length ∷ later) → left ≤ sum (length ∷ later) → month + 1 ≤ 12
-        by [] a f = absurd (omega arith)
-        by (next ∷ later) a f = a.4.3
-
     pub month_turns : (n : ℕ) → n ≡ month_length year (month + 1) → length < left → Leafing year day (month + 1) n (left - length)
     month_turns n e k = by h.later h.are h.fits h.same
       where
@@ -157,8 +140,15 @@ module _ (year day : ℕ) where
             let g : next ≡ n = sym a.4.0 ∙ sym e in
             rw (← g) (record { later = later; are = a.4; fits = omega arith; some = omega arith; same = rw (lt-leb left length k) at s })
 
-    pub month_found : left ≤ length → dated year month left ≡ in_year year day
+    month_found : left ≤ length → dated year month left ≡ in_year year day
     month_found k = sym (rw (le-leb left length k) at h.same)
+
+    pub december : month ≡ 12 → dated year 12 left ≡ in_year year day
+    december e = rw e at (month_found (by h.later h.are h.fits))
+      where
+        by : (later : List ℕ) → Later year month (length ∷ later) → left ≤ sum (length ∷ later) → left ≤ length
+        by [] a f = omega arith
+        by (next ∷ later) a f = let k : month + 1 ≤ 12 = a.4.3 in absurd (omega arith)
 
 -- ---- the date of a day
 
@@ -185,3 +175,5 @@ module _ (d : Date) (last : month_length d.year d.month ≤ d.day) where
   pub after_in_december : 12 ≤ d.month → dated (d.year + 1) 1 1 ≡ day_after d
   unfolding next_first
   after_in_december k = rw (after_month_end d last, le-ltb d.month 12 k)
+
+pub ruleset days_after = (after_in_month, after_in_year, after_in_december)

@@ -5,21 +5,20 @@ use mathlib.Core.List.{List, [], ◌∷◌}
 use Prim.Native.Nat.{ℕ, zero, suc, ◌+◌, ◌-◌, ◌/◌, ◌%◌, ◌≤◌, ◌<◌}
 use native.Mathlib.Omega.{arith}
 use native.Mathlib.Numerals.{add-one}
-use borrow.Author.Tests.{eqb-true, eqb-false, ne_eqb, le-leb, lt-leb}
-use lib.Dec.{eqb, ltb}
-use lib.ListN.{length, get_or, drop, set, replicate, drop_of_length-le, get_or-replicate}
+use borrow.Author.Tests.{eqb-true, eqb-false, ne_eqb}
+use lib.Dec.{eqb, leb, ltb}
+use lib.ListN.{length, get_or, take, drop, set, replicate, drop_of_length-le, get_or-replicate}
 use lib.Seq.{drop-cons, get_or-set_same, get_or-set_other}
+use Rattle.std.proofs.lemmas.List.{get_or-take}
 use Rattle.rules.specs.declared.Date.{Date}
-use Rattle.rules.specs.Outcome.{◌>>◌, require}
+use Rattle.rules.specs.Outcome.{refused, given, ◌>>◌, require}
 use Rattle.rules.specs.Refusals.{not_in_calendar}
 use Rattle.rules.specs.Numbers.{member, keep}
 use Rattle.rules.specs.Calendar.{month_length, date_of, day_of, last_quarter}
 use Rattle.rules.specs.Calendar.{is_working_day, days_from, working_days, next_month, delivery_day}
 use Rattle.rules.specs.Demands.{IsDate}
 use Rattle.rules.proofs.Calendar.{is_date, month_long, monday_to_friday}
-use Rattle.units.specs.declared.DayNumber.{DayNumber}
-use Rattle.calendar.specs.declared.Delivery.TheVariants.{Day, Refused}
-use Rattle.calendar.specs.Deliveries.{Marked, is_working_by_marks, passing, delivery_answer}
+use Rattle.calendar.specs.Deliveries.{Marked, is_working_by_marks, passing}
 
 -- ---- marks
 
@@ -121,12 +120,12 @@ module _ (first : ℕ) (marks : List Bool) (days : ℕ) where
 
   -- a turn, by what the code finds of the day at hand
   module _ {others weekday passed : ℕ} (some : 1 ≤ first) (h : Counting first marks days others weekday passed) (k : passed < days)
-      (t : Bool) (is : t ≡ (ltb weekday 5 && not (get_or marks passed false))) where
+      (t : Bool) (is : t ≡ (ltb weekday 5 && not (get_or (take days marks) passed false))) where
     at_hand : is_working_by_marks first marks (first + passed) ≡ t
     unfolding is_working_by_marks
     at_hand =
         let e : first + passed - first ≡ passed = omega arith in
-        rw (e, monday_to_friday (first + passed) (omega arith), ← h.weekday_is) (sym is)
+        rw (e, monday_to_friday (first + passed) (omega arith), ← h.weekday_is, ← get_or-take days marks passed false k) (sym is)
 
     more : days - passed ≡ suc (days - (passed + 1))
     more = omega arith
@@ -161,8 +160,11 @@ module _ (first : ℕ) (marks : List Bool) (days : ℕ) where
 
 -- by the date that the code finds for a day
 module _ (day : ℕ) (some : 1 ≤ day) (date : Date) (is : date ≡ date_of day) where
-  pub date_found : IsDate date
+  date_found : IsDate date
   date_found = subst IsDate (sym is) (is_date day some)
+
+  pub month_found : (1 ≤ date.month) × (date.month ≤ 12)
+  month_found = let h = date_found in (h.month_some, h.month_few)
 
   module _ (days : ℕ) (long : days ≡ month_length date.year date.month) where
     pub length_found : days ≡ month_length (date_of day).year (date_of day).month
@@ -196,40 +198,38 @@ keep_same f g day (suc days) same =
     rw (e, r)
 
 -- no mark at first
-module _ (first : ℕ) (holidays : List ℕ) (marks : List Bool) (m : Marked first holidays (replicate 31 false) marks) where
-  tells : (day : ℕ) → first ≤ day → day < first + 31 → is_working_by_marks first marks day ≡ is_working_day holidays day
+module _ (first : ℕ) (holidays : List ℕ) (marks : List Bool) (m : Marked first holidays (replicate 31 false) marks) (days : ℕ) (few : days ≤ 31) where
+  tells : (day : ℕ) → first ≤ day → day < first + days → is_working_by_marks first marks day ≡ is_working_day holidays day
   unfolding is_working_by_marks is_working_day
   tells day h k =
       let e : first + (day - first) ≡ day = omega arith in
       let none : get_or (replicate 31 false) (day - first) false ≡ false = get_or-replicate 31 (day - first) false false (omega arith) in
       rw (m.at (day - first) (omega arith), none, e)
 
-  counted : (days : ℕ) → days ≤ 31 → passing (is_working_by_marks first marks) first days 3 ≡ get_or (keep (is_working_day holidays) (days_from first days)) 3 0
+  counted : passing (is_working_by_marks first marks) first days 3 ≡ get_or (keep (is_working_day holidays) (days_from first days)) 3 0
   unfolding passing
-  counted days k =
+  counted =
       let r : keep (is_working_by_marks first marks) (days_from first days) ≡ keep (is_working_day holidays) (days_from first days) =
-      keep_same (is_working_by_marks first marks) (is_working_day holidays) first days (λ d h l. tells d h (omega arith)) in
+      keep_same (is_working_by_marks first marks) (is_working_day holidays) first days tells in
       rw r
 
 module _ (quarter : ℕ) (holidays : List ℕ) where
-  pub too_early : quarter < 1 → Refused not_in_calendar ≡ delivery_answer (delivery_day quarter holidays)
+  pub outside : (leb 1 quarter && leb quarter last_quarter) ≡ false → refused not_in_calendar ≡ delivery_day quarter holidays
   unfolding delivery_day require ◌>>◌
-  too_early k = rw (lt-leb 1 quarter k)
+  outside e = rw e
 
-  pub too_late : last_quarter < quarter → Refused not_in_calendar ≡ delivery_answer (delivery_day quarter holidays)
-  unfolding delivery_day require ◌>>◌
-  too_late k = rw (le-leb 1 quarter (omega arith), lt-leb quarter last_quarter k)
-
-  module _ (some : 1 ≤ quarter) (few : quarter ≤ last_quarter) (first : ℕ) (is : first ≡ next_month ((quarter - 1) / 96 + 1)) where
+  module _ (inside : (leb 1 quarter && leb quarter last_quarter) ≡ true) (first : ℕ) (is : first ≡ next_month ((quarter - 1) / 96 + 1)) where
     pub first_near : (1 ≤ first) × (first ≤ 36600)
-    first_near = let n = next_month_near ((quarter - 1) / 96 + 1) (omega arith) in (omega arith, omega arith)
+    first_near =
+        let few : quarter ≤ last_quarter = grind (arith, inside) in
+        let n = next_month_near ((quarter - 1) / 96 + 1) (omega arith) in
+        (omega arith, omega arith)
 
-    pub delivered : (days : ℕ) → days ≡ month_length (date_of first).year (date_of first).month
-        → (marks : List Bool) → Marked first holidays (replicate 31 false) marks
-        → (day : DayNumber) → day.0 ≡ passing (is_working_by_marks first marks) first days 3
-        → Day day ≡ delivery_answer (delivery_day quarter holidays)
-    unfolding delivery_day require ◌>>◌ working_days day_of
-    delivered days long marks m day e =
-        let n = month_few_days first first_near.0 in
-        rw (le-leb 1 quarter some, le-leb quarter last_quarter few, ← is, ← long)
-        (ap (λ (d : ℕ). Day (record { 0 = d })) (e ∙ counted first holidays marks m days (omega arith)))
+    module _ (days : ℕ) (long : days ≡ month_length (date_of first).year (date_of first).month) where
+      pub few_days : days ≤ 31
+      few_days = omega (arith, month_few_days first first_near.0)
+
+      pub delivered : (marks : List Bool) → Marked first holidays (replicate 31 false) marks
+          → (day : ℕ) → day ≡ passing (is_working_by_marks first marks) first days 3 → given day ≡ delivery_day quarter holidays
+      unfolding delivery_day require ◌>>◌ working_days day_of
+      delivered marks m day e = rw (inside, ← is, ← long) (ap given (e ∙ counted first holidays marks m days few_days))

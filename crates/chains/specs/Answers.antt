@@ -1,34 +1,34 @@
--- What each answer of the code stands for: document 01's number and values for each case.
-use Rattle.std.specs.Prelude.{ℕ, zero, suc, List, length}
-use Rattle.rules.specs.Outcome.{Outcome, refused, given}
-use Rattle.rules.specs.Archive.{Entry}
+-- What each answer of the code stands for: document 01's records for their numbers.
+use Rattle.std.specs.Prelude.{ℕ, zero, suc, List, length, Option, Some, None, Result, Ok, Err}
+use Rattle.rules.specs.Outcome.{Outcome, refused, given, ◌>>=◌}
+use Rattle.rules.specs.Results.{outcome_by, number}
+use Rattle.rules.specs.Archive.{Entry, entry_at, follow}
 use Rattle.rules.specs.Filing.{last_place}
-use Rattle.chains.specs.declared.Link.{Link}
-use Rattle.chains.specs.declared.Link.TheVariants as link
-use Rattle.chains.specs.declared.Reach.{Reach}
-use Rattle.chains.specs.declared.Reach.TheVariants as reach
+use Rattle.rules.specs.declared.refusal.Refusal.{Refusal}
 use Rattle.chains.specs.declared.ChainEnd.{ChainEnd}
-use Rattle.chains.specs.declared.ChainEnd.TheVariants as chain_end
 
--- zero ends the chain; any other link leads to a record, by its number, or is refused with 2 or 3
-abbrev pub link_answer : ℕ → Outcome Entry → Link
-link_answer zero o = link.End
-link_answer (suc l) (refused n) = link.Refused n
-link_answer (suc l) (given e) = link.At e.number
+-- the record with a number, if there is one
+abbrev pub entry_of : List ℕ → Option ℕ → Option Entry
+entry_of archive None = None
+entry_of archive (Some n) = Some (entry_at archive n)
 
--- the number of the record at a place of a chain and the links followed to it, which are as many as the place; or 2, 3 or the number
--- for a place that the chain doesn't have
-abbrev pub reach_answer : ℕ → Outcome Entry → Reach
-reach_answer place (refused n) = reach.Refused n
-reach_answer place (given e) = reach.At e.number place
+abbrev pub followed : List ℕ → Result (Option ℕ) Refusal → Outcome (Option Entry)
+followed archive r = outcome_by (entry_of archive) r
 
--- the place of a chain's last link, from the place of its first one, and the links followed, one to each record; or 2 or 3
-abbrev pub end_answer : ℕ → Outcome (List Entry) → ChainEnd
-end_answer place (refused n) = chain_end.Refused n
-end_answer place (given es) = chain_end.At (last_place place es) (length es)
+-- zero ends the chain; any other link leads to a record, or is refused with 2 or 3
+abbrev pub linked : List ℕ → ℕ → ℕ → ℕ → ℕ → Outcome (Option Entry)
+linked archive used kind holder zero = given None
+linked archive used kind holder (suc l) = follow archive used kind holder (suc l) >>= λ e. given (Some e)
 
--- the number with which a walk is refused by an answer that leads to no record; `missing` if the chain has ended
-abbrev pub refusal_of : Link → ℕ → ℕ
-refusal_of (link.At n) missing = missing
-refusal_of link.End missing = missing
-refusal_of (link.Refused n) missing = n
+-- the record at a place of a chain; or 2, 3 or the number for a place that the chain doesn't have
+abbrev pub reached : List ℕ → ℕ → Result (Option ℕ) Refusal → Outcome Entry
+reached archive missing (Ok (Some n)) = given (entry_at archive n)
+reached archive missing (Ok None) = refused missing
+reached archive missing (Err e) = refused (number e)
+
+-- the place of a chain's last link, from the place of its first one, and the links followed, one to each record
+abbrev pub end_of : ℕ → List Entry → ChainEnd
+end_of place es = record { place = last_place place es; links = length es }
+
+abbrev pub ended : ℕ → Outcome (List Entry) → Outcome ChainEnd
+ended place o = o >>= λ es. given (end_of place es)

@@ -1,62 +1,100 @@
 // Links followed, and chains walked to a place or to their end (document 01, 'Chains').
 #![tactic(auto)]
 
-ghost use Rattle.std.specs.Prelude.{◌≡◌, ◌+◌, ◌*◌, ◌≤◌, ◌<◌, length};
-ghost use Rattle.rules.specs.Archive.{link_at, follow, at_place, chain};
-ghost use Rattle.chains.specs.Answers.{link_answer, reach_answer, end_answer, refusal_of};
+ghost use Rattle.std.specs.Prelude.{◌≡◌, ℕ, ◌+◌, ◌*◌, ◌≤◌, ◌<◌, length};
+ghost use Rattle.std.specs.Iterator.{at_most};
+ghost use Rattle.rules.specs.Archive.{link_at, at_place, chain};
+ghost use Rattle.rules.specs.Results.{outcome};
+ghost use Rattle.chains.specs.Answers.{followed, linked, reached, ended};
 ghost use Rattle.chains.specs.Held.{LinkHeld};
+ghost use Rattle.chains.specs.Steps.{Lies, Steps, Starts, left};
 
-use rules::refusal;
+use rules::Refusal;
 
 // ---- links
 
-// The answer to a link: the number of the record that it leads to, the chain's end, or a refusal.
-#[derive(Clone, Copy)]
-pub enum Link {
-    At(u64),
-    End,
-    Refused(u64),
-}
-
-// A link of `holder` that is followed is above its holder and below U (2), then leads to the right kind (3).
-pub fn follow(archive: &[u8], used: u64, kind: u8, holder: u64, link: u64) -> Link
+// A link of `holder` that is followed is above its holder and below U (2), then leads to the right kind (3): the number of its record, or
+// none at a link of zero, which ends a chain. An archive and its U stay two parameters here and below: a struct of both would name each of
+// them again in every clause, and it is handed on to no further function.
+pub fn follow(
+    archive: &[u8],
+    used: u64,
+    kind: u8,
+    holder: u64,
+    link: u64,
+) -> Result<Option<u64>, Refusal>
     requires { 32 * used ≤ length archive.now }
-    ensures { result ≡ link_answer link (follow archive.now used kind holder link) }
+    ensures { followed archive.now result ≡ linked archive.now used kind holder link }
 {
     if link == 0 {
-        return Link::End;
+        return Ok(None);
     }
     if link <= holder || used <= link {
-        return Link::Refused(refusal::BAD_LINK);
+        return Err(Refusal::BadLink);
     }
-    let i = link as usize;
-    if record::kind_of(&archive[32 * i..32 * i + 32]) != kind {
-        return Link::Refused(refusal::WRONG_KIND);
+    if record::kind_of(record::record_at(archive, link)) != kind {
+        return Err(Refusal::WrongKind);
     }
-    Link::At(link)
-}
-
-// The number with which an answer that leads to no record refuses a walk; `missing` where the chain has ended.
-pub fn refusal_of(answer: Link, missing: u64) -> u64
-    ensures { result ≡ refusal_of answer missing }
-{
-    match answer {
-        Link::At(_) => missing,
-        Link::End => missing,
-        Link::Refused(n) => n,
-    }
+    Ok(Some(link))
 }
 
 // ---- chains
 
-// The record at a place of a chain and the links followed to it, or a refusal.
-#[derive(Clone, Copy)]
-pub enum Reach {
-    At(u64, u64),
-    Refused(u64),
+// A walk along a chain: the record that it has come to, at first the chain's holder, and the link that is followed next. It gives the
+// numbers of the chain's records, and ends at the first refusal.
+#[derive(Drop)]
+pub struct Chain<'a> {
+    archive: &'a [u8],
+    used: u64,
+    kind: u8,
+    last: u64,
+    link: u64,
 }
 
-// The place is counted from 1; `missing` refuses a place that the chain doesn't have. At place 0 no link is followed.
+impl<'a> Iterator for Chain<'a> {
+    type Item = Result<u64, Refusal>;
+
+    ghost can_next = { Lies };
+
+    ghost next_gives = { Steps };
+
+    ghost remaining = { λ s. at_most (left s) };
+
+    fn next(&mut self) -> Option<Result<u64, Refusal>> {
+        match follow(self.archive, self.used, self.kind, self.last, self.link) {
+            Ok(None) => None,
+            Ok(Some(n)) => {
+                let onward = record::link_of(self.archive, n, 4);
+                self.last = n;
+                self.link = onward;
+                Some(Ok(n))
+            }
+            Err(refusal) => {
+                self.link = 0;
+                Some(Err(refusal))
+            }
+        }
+    }
+}
+
+impl<'a> Chain<'a> {
+    // From the link `first` of `holder` on.
+    pub fn starting(archive: &'a [u8], used: u64, kind: u8, holder: u64, first: u64) -> Chain<'a>
+        requires { 32 * used ≤ length archive.now }
+        ensures { Starts archive.now used kind holder first result }
+    {
+        Chain {
+            archive,
+            used,
+            kind,
+            last: holder,
+            link: first,
+        }
+    }
+}
+
+// The record at a place of a chain, counted from 1, or none where the chain doesn't have that place. As many links are followed to it; at
+// place 0 none is.
 pub fn walk_to(
     archive: &[u8],
     used: u64,
@@ -64,57 +102,50 @@ pub fn walk_to(
     holder: u64,
     first: u64,
     place: u64,
-    missing: u64,
-) -> Reach
+) -> Result<Option<u64>, Refusal>
     requires { 32 * used ≤ length archive.now }
-    ensures { result ≡ reach_answer place (at_place archive.now used kind missing place holder first) }
+    ensures { (missing : ℕ) → reached archive.now missing result ≡ at_place archive.now used kind missing place holder first }
 {
     if place == 0 {
-        return Reach::Refused(missing);
+        return Ok(None);
     }
-    let mut reached = holder;
-    let mut link = first;
-    let mut links: u64 = 1;
-    loop {
-        let answer = follow(archive, used, kind, reached, link);
-        let Link::At(n) = answer else {
-            return Reach::Refused(refusal_of(answer, missing));
-        };
-        if links == place {
-            return Reach::At(n, links);
+    // counted here, since a place counts from 1 and enumerate from 0
+    let mut passed: u64 = 0;
+    for step in Chain::starting(archive, used, kind, holder, first) {
+        let n = step?;
+        passed += 1;
+        if passed == place {
+            return Ok(Some(n));
         }
-        reached = n;
-        link = record::link_of(archive, n, 4);
-        links += 1;
     }
+    Ok(None)
 }
 
-// The place of a chain's last link and the links followed, or a refusal.
+// The place of a chain's last link, and the links followed.
 #[derive(Clone, Copy)]
-pub enum ChainEnd {
-    At(u64, u64),
-    Refused(u64),
+pub struct ChainEnd {
+    pub place: u64,
+    pub links: u64,
 }
 
-// The chain starts with the link at byte `offset` of its holder. A link that isn't zero never answers with the chain's end.
-pub fn walk_all(archive: &[u8], used: u64, kind: u8, holder: u64, offset: u64) -> ChainEnd
+// The chain starts with the link at byte `offset` of its holder.
+pub fn walk_all(
+    archive: &[u8],
+    used: u64,
+    kind: u8,
+    holder: u64,
+    offset: usize,
+) -> Result<ChainEnd, Refusal>
     requires { LinkHeld archive.now used holder offset }
     ensures { let first = 32 * holder + offset in
-        result ≡ end_answer first (chain archive.now used kind holder (link_at archive.now first)) }
+        outcome result ≡ ended first (chain archive.now used kind holder (link_at archive.now first)) }
 {
-    let mut last = holder;
-    let mut at = offset;
-    let mut link = record::link_of(archive, holder, offset as usize);
+    let mut place = 32 * holder + offset as u64;
     let mut links: u64 = 0;
-    while link != 0 {
-        let answer = follow(archive, used, kind, last, link);
-        let Link::At(n) = answer else {
-            return ChainEnd::Refused(refusal_of(answer, 0));
-        };
-        last = n;
-        at = 4;
-        link = record::link_of(archive, last, 4);
+    let first = record::link_of(archive, holder, offset);
+    for step in Chain::starting(archive, used, kind, holder, first) {
+        place = 32 * step? + 4;
         links += 1;
     }
-    ChainEnd::At(32 * last + at, links)
+    Ok(ChainEnd { place, links })
 }

@@ -1,91 +1,52 @@
--- One before-quarter of the walk, by what the code has read and tested; and the tests after the walk.
-use mathlib.Core.Path.{◌≡◌, refl, sym, ◌∙◌, ap, subst}
-use mathlib.Core.Bool.{Bool, true, false}
-use mathlib.Core.List.{List}
-use Prim.Native.Nat.{ℕ, ◌+◌, ◌≤◌, ◌<◌}
-use native.Mathlib.Omega.{arith}
+-- One before-quarter of the walk, by what the code has read and tested.
+use Rattle.std.proofs.Common.{◌≡◌, ℕ, ◌+◌, ◌≤◌, ◌<◌, List, Option, Some, None, IfSome, refl, arith}
 use borrow.Author.Tests.{lt-ltb, le-ltb, le-leb, lt-leb, eq-eqb, ne_eqb}
-use Rattle.rules.specs.Outcome.{Outcome, refused, given, ◌>>◌, require}
-use Rattle.rules.specs.Refusals.{bad_count, out_of_range}
+use Rattle.rules.specs.Outcome.{Outcome, refused, given}
 use Rattle.rules.specs.Archive.{byte_at}
 use Rattle.rules.specs.Terms.{before_of}
 use Rattle.comparison.specs.declared.Sums.{Sums}
-use Rattle.comparison.specs.declared.Added.{Added}
-use Rattle.comparison.specs.declared.Added.TheVariants.{To, OutOfRange}
-use Rattle.comparison.specs.Sums.{Choice, taken, added_answer, Grown, RoomAdded}
+use Rattle.comparison.specs.Sums.{Choice, taken, added_answer, RoomAdded}
 use Rattle.comparison.specs.declared.Walk.{Walk}
-use Rattle.comparison.specs.declared.Gathered.TheVariants.{Of, Refused}
-use Rattle.comparison.specs.Walks.{counted, not_fine, stepped, RoomIn, passed, gathered_answer}
+use Rattle.comparison.specs.Walks.{counted, not_fine, with_taken, stepped, RoomOf}
 
 -- ---- room
 
-pub grown_to : (s t : Sums) (x : Added) → x ≡ To t → RoomAdded s x → Grown s t
-grown_to s t x e h = subst (RoomAdded s) e h
+-- what is added keeps no more used than met
+pub room_added : (count : ℕ) (s : Sums) (x : Option Sums) → RoomOf count s → RoomAdded s x → IfSome x (RoomOf (count + 1))
+room_added count s None room g = tt
+room_added count s (Some t) room g = record { room = g.room; used = omega (arith, room.used, g.one) }
 
-module _ (w : Walk) (room : RoomIn w) where
-  pub room_kept : (fine : Bool) → RoomIn (record { count = w.count + 1; fine = fine; sums = w.sums })
-  room_kept fine = record { room = room.room; used = omega (arith, room.used) }
-
-  pub room_to : (t : Sums) → Grown w.sums t → RoomIn (record { count = w.count + 1; fine = w.fine; sums = t })
-  room_to t g = record { room = g.room; used = omega (arith, room.used, g.one) }
-
-  pub room_used : w.count < 96 → w.sums.used < 96
-  room_used h = omega (arith, room.used)
+pub room_kept : (count : ℕ) (x : Option Sums) → IfSome x (RoomOf count) → IfSome x (RoomOf (count + 1))
+room_kept count None room = tt
+room_kept count (Some s) room = record { room = room.room; used = omega (arith, room.used) }
 
 -- ---- a step
 
 module _ (choice : Choice) (w : Walk) (r : List ℕ) where
-  pub step_skipped : w.fine ≡ false → counted w ≡ stepped choice w r
+  pub step_skipped : w.sums ≡ None → counted w ≡ stepped choice w r
   unfolding stepped
-  step_skipped e = rw e
+  step_skipped e = rw e refl
 
-  module _ (fine : w.fine ≡ true) where
+  module _ {s : Sums} (fine : w.sums ≡ Some s) where
     pub step_bad : 1 < byte_at r 1 → not_fine w ≡ stepped choice w r
     unfolding stepped
-    step_bad h = rw (fine, lt-leb (byte_at r 1) 1 h)
+    step_bad h = rw (fine, lt-leb (byte_at r 1) 1 h) refl
 
     pub step_unmarked : byte_at r 1 ≤ 1 → (byte_at r 1 ≡ 1 → ⊥) → counted w ≡ stepped choice w r
     unfolding stepped
-    step_unmarked h z = rw (fine, le-leb (byte_at r 1) 1 h, ne_eqb (byte_at r 1) 1 z)
+    step_unmarked h z = rw (fine, le-leb (byte_at r 1) 1 h, ne_eqb (byte_at r 1) 1 z) refl
 
     module _ (one : byte_at r 1 ≡ 1) where
       pub step_over : 96 ≤ w.count → counted w ≡ stepped choice w r
       unfolding stepped
-      step_over h = rw (fine, le-leb (byte_at r 1) 1 (omega arith), eq-eqb (byte_at r 1) 1 one, le-ltb w.count 96 h)
+      step_over h = rw (fine, le-leb (byte_at r 1) 1 (omega arith), eq-eqb (byte_at r 1) 1 one, le-ltb w.count 96 h) refl
 
-      module _ (few : w.count < 96) (x : Added) (a : x ≡ added_answer (taken choice w.sums (before_of r))) where
-        pub step_out : x ≡ OutOfRange → not_fine w ≡ stepped choice w r
-        unfolding stepped
-        step_out t =
-            rw (fine, le-leb (byte_at r 1) 1 (omega arith), eq-eqb (byte_at r 1) 1 one, lt-ltb w.count 96 few)
-            (rw (go (taken choice w.sums (before_of r)) (sym t ∙ a)).1)
-          where
-            go : (o : Outcome Sums) → OutOfRange ≡ added_answer o → (n : ℕ) × (o ≡ refused n)
-            go (refused n) b = (n, refl)
-            go (given u) b = let z : ◌≡◌ {A = ℕ} 0 1 = cc in absurd (omega arith)
-
-        pub step_to : (t : Sums) → x ≡ To t → ◌≡◌ {A = Walk} (record { count = w.count + 1; fine = w.fine; sums = t }) (stepped choice w r)
-        unfolding stepped
-        step_to t e =
-            rw (fine, le-leb (byte_at r 1) 1 (omega arith), eq-eqb (byte_at r 1) 1 one, lt-ltb w.count 96 few)
-            (rw (go (taken choice w.sums (before_of r)) (sym e ∙ a)))
-          where
-            go : (o : Outcome Sums) → To t ≡ added_answer o → o ≡ given t
-            go (refused n) b = let z : ◌≡◌ {A = ℕ} 0 1 = cc in absurd (omega arith)
-            go (given u) b = ap given (cc)
-
--- ---- after the walk
-
-module _ (w : Walk) where
-  pub passed_over : 96 < w.count → Refused bad_count ≡ gathered_answer (passed w)
-  unfolding passed require ◌>>◌
-  passed_over h = rw (lt-leb w.count 96 h)
-
-  module _ (few : w.count ≤ 96) where
-    pub passed_out : w.fine ≡ false → Refused out_of_range ≡ gathered_answer (passed w)
-    unfolding passed require ◌>>◌
-    passed_out e = rw (le-leb w.count 96 few, e)
-
-    pub passed_fine : w.fine ≡ true → Of w ≡ gathered_answer (passed w)
-    unfolding passed require ◌>>◌
-    passed_fine e = rw (le-leb w.count 96 few, e)
+      pub step_added : w.count < 96 → (x : Option Sums) → x ≡ added_answer (taken choice s (before_of r))
+          → ◌≡◌ {A = Walk} (record { count = w.count + 1; sums = x }) (stepped choice w r)
+      unfolding stepped
+      step_added few x a =
+          rw (fine, le-leb (byte_at r 1) 1 (omega arith), eq-eqb (byte_at r 1) 1 one, lt-ltb w.count 96 few) (go (taken choice s (before_of r)) a)
+        where
+          go : (o : Outcome Sums) → x ≡ added_answer o → ◌≡◌ {A = Walk} (record { count = w.count + 1; sums = x }) (with_taken w o)
+          go (refused n) b = rw b refl
+          go (given t) b = rw b refl

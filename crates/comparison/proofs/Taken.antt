@@ -16,13 +16,13 @@ use Rattle.rules.specs.Reference.{curve_power}
 use Rattle.rules.proofs.Ints.{under, parts_le, le_parts, sub_parts, or_zero_add}
 use Rattle.rules.proofs.Bounds.{passes, ten_above, ten_under}
 use Rattle.units.specs.declared.Watt.{Watt}
+use Rattle.record.specs.Powers.{PowerOf}
 use Rattle.curve.specs.declared.Curve.{Curve}
 use Rattle.curve.specs.Tables.{Tabulates}
 use Rattle.comparison.specs.declared.Purpose.{Purpose}
 use Rattle.comparison.specs.declared.Purpose.TheVariants.{Four, First, All}
 use Rattle.comparison.specs.declared.Sums.{Sums}
-use Rattle.comparison.specs.declared.Added.{Added}
-use Rattle.comparison.specs.declared.Added.TheVariants.{To, OutOfRange}
+use Rattle.std.specs.Prelude.{Option, Some, None}
 use Rattle.comparison.specs.Sums.{Choice, first_four, first_one, every_one, Means, Scaled, Ready}
 use Rattle.comparison.specs.Sums.{plus, only_one, power_bias, raised, taken, added_answer, Room, RoomFor, Grown}
 
@@ -74,66 +74,66 @@ pub record Measured (r : List ℕ) (p : ℕ) : Type 0 where
   pub range : is_power (field_at r 8) ≡ true
   pub held : field_at r 8 ≡ sub_ℕ p power_bias
 
-pub measured : {r : List ℕ} {m : ℤ} → m ≡ field_at r 8 → is_power m ≡ true → (p : ℕ) → m ≡ sub_ℕ p power_bias → Measured r p
-measured is range p e = record { range = rw (← is) range; held = sym is ∙ e }
+pub measured : {r : List ℕ} {m : Watt} → PowerOf (field_at r 8) (Some m) → (p : ℕ) → m.0 ≡ sub_ℕ p power_bias → Measured r p
+measured is p e = record { range = is.0; held = sym is.1 ∙ e }
 
 -- ---- taken
 
 -- the answer for a choice
-abbrev pub answer : Sums → List ℕ → Choice → Added
+abbrev pub answer : Sums → List ℕ → Choice → Option Sums
 answer s r choice = added_answer (taken choice s (before_of r))
 
 module _ (s : Sums) (r : List ℕ) where
-  pub four_full : (pn : ℕ) (points : List Point) → 4 ≤ s.used → To s ≡ answer s r (first_four pn points)
+  pub four_full : (pn : ℕ) (points : List Point) → 4 ≤ s.used → Some s ≡ answer s r (first_four pn points)
   unfolding taken
   four_full pn points h = rw (le-ltb s.used 4 h)
 
-  pub one_full : (s.used ≡ 0 → ⊥) → To s ≡ answer s r first_one
+  pub one_full : (s.used ≡ 0 → ⊥) → Some s ≡ answer s r first_one
   unfolding taken
   one_full z = rw (ne_eqb s.used 0 z)
 
   -- the measured power is out of range
-  module _ {m : ℤ} (is : m ≡ field_at r 8) (out : is_power m ≡ false) where
-    pub four_out : (pn : ℕ) (points : List Point) → s.used < 4 → OutOfRange ≡ answer s r (first_four pn points)
+  module _ (out : is_power (field_at r 8) ≡ false) where
+    pub four_out : (pn : ℕ) (points : List Point) → s.used < 4 → None ≡ answer s r (first_four pn points)
     unfolding taken before_of require ◌>>◌
-    four_out pn points h = rw (lt-ltb s.used 4 h, ← is, out)
+    four_out pn points h = rw (lt-ltb s.used 4 h, out)
 
-    pub one_out : s.used ≡ 0 → OutOfRange ≡ answer s r first_one
+    pub one_out : s.used ≡ 0 → None ≡ answer s r first_one
     unfolding taken before_of require ◌>>◌
-    one_out z = rw (eq-eqb s.used 0 z, ← is, out)
+    one_out z = rw (eq-eqb s.used 0 z, out)
 
-    pub every_out : OutOfRange ≡ answer s r every_one
+    pub every_out : None ≡ answer s r every_one
     unfolding taken before_of require ◌>>◌
-    every_out = rw (← is, out)
+    every_out = rw out
 
   module _ {p : ℕ} (m : Measured r p) where
     as_raised : raised (field_at r 8) ≡ p
     as_raised = sym (raised_is (field_at r 8) p m.held)
 
-    pub one_used : s.used ≡ 0 → To (only_one p) ≡ answer s r first_one
+    pub one_used : s.used ≡ 0 → Some (only_one p) ≡ answer s r first_one
     unfolding taken before_of require ◌>>◌
     one_used z = rw (eq-eqb s.used 0 z, m.range, as_raised)
 
-    pub four_low : (pn : ℕ) (points : List Point) → s.used < 4 → 10 * p < pn + 10000000000 → To s ≡ answer s r (first_four pn points)
+    pub four_low : (pn : ℕ) (points : List Point) → s.used < 4 → 10 * p < pn + 10000000000 → Some s ≡ answer s r (first_four pn points)
     unfolding taken before_of require ◌>>◌
     four_low pn points few h = rw (lt-ltb s.used 4 few, m.range, no_tenth pn p (field_at r 8) m.held h)
 
     module _ {word : ℕ} (w : word ≡ link_at r 16) where
-      pub every_weather : is_irradiance (twos word) ≡ false → OutOfRange ≡ answer s r every_one
+      pub every_weather : is_irradiance (twos word) ≡ false → None ≡ answer s r every_one
       unfolding taken before_of field_at require ◌>>◌
       every_weather out = rw (m.range, ← w, out)
 
-      pub every_used : is_irradiance (twos word) ≡ true → {g : ℕ} {t : Sums} → g ≡ or_zero (twos word) → t ≡ plus s p g → To t ≡ answer s r every_one
+      pub every_used : is_irradiance (twos word) ≡ true → {g : ℕ} {t : Sums} → g ≡ or_zero (twos word) → t ≡ plus s p g → Some t ≡ answer s r every_one
       unfolding taken before_of field_at require ◌>>◌
       every_used weather e f = rw (f, m.range, as_raised, ← w, weather, ← e)
 
       module _ (pn : ℕ) (points : List Point) (few : s.used < 4) (enough : pn + 10000000000 ≤ 10 * p) where
-        pub four_weather : is_speed (twos word) ≡ false → OutOfRange ≡ answer s r (first_four pn points)
+        pub four_weather : is_speed (twos word) ≡ false → None ≡ answer s r (first_four pn points)
         unfolding taken before_of field_at require ◌>>◌
         four_weather out = rw (lt-ltb s.used 4 few, m.range, tenth pn p (field_at r 8) m.held enough, ← w, out)
 
         pub four_used : is_speed (twos word) ≡ true → {speed power : ℕ} {t : Sums} → speed ≡ or_zero (twos word) → power ≡ curve_power points speed
-            → t ≡ plus s p power → To t ≡ answer s r (first_four pn points)
+            → t ≡ plus s p power → Some t ≡ answer s r (first_four pn points)
         unfolding taken before_of field_at require ◌>>◌
         four_used weather e f g =
             rw (g, lt-ltb s.used 4 few, m.range, tenth pn p (field_at r 8) m.held enough, as_raised, ← w, weather, ← e, ← f)
@@ -143,7 +143,7 @@ module _ (s : Sums) (r : List ℕ) where
 pub scaled : {purpose : Purpose} {powers : List ℕ} {pn : Watt} {curve : Curve} → purpose ≡ Four pn curve → Ready purpose powers → Scaled pn powers
 scaled {powers} e h = subst (λ p. Ready p powers) e h
 
-module _ (purpose : Purpose) (powers : List ℕ) (s : Sums) (r : List ℕ) (t : Added) where
+module _ (purpose : Purpose) (powers : List ℕ) (s : Sums) (r : List ℕ) (t : Option Sums) where
   -- what is added from a marked before-quarter
   abbrev pub Adds : Type 0
   Adds = (choice : Choice) → Means purpose powers choice → t ≡ answer s r choice

@@ -1,5 +1,5 @@
 -- What a marked before-quarter adds to the sums A and B.
-use Rattle.std.specs.Prelude.{ℕ, ◌+◌, ◌*◌, ◌≤◌, ◌<◌, ◌≡◌, cond, ◌&&◌, List, eqb, ltb, ℤ, pos, ◌+ℤ◌, length}
+use Rattle.std.specs.Prelude.{ℕ, ◌+◌, ◌*◌, ◌≤◌, ◌<◌, ◌≡◌, cond, ◌&&◌, List, eqb, ltb, ℤ, pos, ◌+ℤ◌, length, Option, Some, None}
 use Rattle.rules.specs.Outcome.{Outcome, refused, given, ◌>>◌, require}
 use Rattle.rules.specs.Refusals.{out_of_range}
 use Rattle.rules.specs.Numbers.{or_zero}
@@ -12,8 +12,6 @@ use Rattle.curve.specs.Tables.{Low, Tabulates}
 use Rattle.comparison.specs.declared.Purpose.{Purpose}
 use Rattle.comparison.specs.declared.Purpose.TheVariants.{Four, First, All}
 use Rattle.comparison.specs.declared.Sums.{Sums}
-use Rattle.comparison.specs.declared.Added.{Added}
-use Rattle.comparison.specs.declared.Added.TheVariants as added
 
 -- ---- purposes
 
@@ -79,9 +77,9 @@ taken first_one s x = cond (eqb s.used 0) (require (is_power x.measured) out_of_
 taken every_one s x =
     require (is_power x.measured && is_irradiance x.weather) out_of_range >> given (plus s (raised x.measured) (or_zero x.weather))
 
-abbrev pub added_answer : Outcome Sums → Added
-added_answer (refused n) = added.OutOfRange
-added_answer (given s) = added.To s
+abbrev pub added_answer : Outcome Sums → Option Sums
+added_answer (refused n) = None
+added_answer (given s) = Some s
 
 -- ---- how large the sums can be
 
@@ -99,27 +97,24 @@ pub record RoomFor (s : Sums) (a b : ℕ) : Type 0 where
   pub low_b : b ≤ 1000000000
 
 -- what a marked before-quarter needs: for wind Spitz, for solar Spitz, and for any purpose
-pub record FourReady (pn : Watt) (powers : List ℕ) (s : Sums) (r : List ℕ) : Type 0 where
+pub record FourReady (pn : Watt) (powers : List ℕ) (s : Sums) : Type 0 where
   pub scaled : Scaled pn powers
   pub room : Room s
-  pub size : length r ≡ 32
 
-pub record AllReady (s : Sums) (r : List ℕ) : Type 0 where
+pub record AllReady (s : Sums) : Type 0 where
   pub room : Room s
   pub few : s.used < 96
-  pub size : length r ≡ 32
 
-pub record MarkedReady (purpose : Purpose) (powers : List ℕ) (s : Sums) (r : List ℕ) : Type 0 where
+pub record MarkedReady (purpose : Purpose) (powers : List ℕ) (s : Sums) : Type 0 where
   pub ready : Ready purpose powers
   pub room : Room s
   pub few : s.used < 96
-  pub size : length r ≡ 32
 
 -- one more used at most
 pub record Grown (s t : Sums) : Type 0 where
   pub room : Room t
   pub one : t.used ≤ s.used + 1
 
-abbrev pub RoomAdded : Sums → Added → Type 0
-RoomAdded s (added.To t) = Grown s t
-RoomAdded s added.OutOfRange = Unit {0}
+abbrev pub RoomAdded : Sums → Option Sums → Type 0
+RoomAdded s (Some t) = Grown s t
+RoomAdded s None = Unit {0}

@@ -8,13 +8,13 @@ use native.Mathlib.Omega.{arith}
 use borrow.Author.Tests.{le-leb, lt-leb}
 use borrow.Author.Rules.{part_to_end}
 use lib.Dec.{eqb, leb}
+use Rattle.std.specs.List.{list_all}
 use lib.IntN.{ℤ, pos, ◌+ℤ◌, +ℤ_idl, +ℤ_idr, +ℤ_assoc}
 use lib.Signed.{mag}
 use lib.ListN.{length, get_or, take, drop, length-drop}
 use lib.Seq.{drop-cons, drop-length}
 use Rattle.rules.specs.declared.MillionthCent.{MillionthCent}
 use Rattle.rules.specs.declared.Money.{Money}
-use Rattle.rules.specs.declared.Corrected.{Corrected}
 use Rattle.rules.specs.Outcome.{Outcome, refused, given, ◌>>◌, require}
 use Rattle.rules.specs.Refusals.{bad_energies, bad_price, unequal_lists}
 use Rattle.rules.specs.Numbers.{or_zero, all}
@@ -35,29 +35,9 @@ drop_all xs i low high = let e : i ≡ length xs = omega arith in rw (e, drop-le
 
 -- ---- the energies of one list
 
-module _ (xs : List ℤ) (i : ℕ) (within : i < length xs) (fits : mag (get_or xs i (pos 0)) < 2 ^ 63) (so_far : all is_energy xs ≡ all is_energy (drop i xs)) where
-  at_place : all is_energy xs ≡ (is_energy (held (get_or xs i (pos 0))) && all is_energy (drop (i + 1) xs))
-  at_place =
-      so_far ∙ ap (all is_energy) (drop_at xs i within)
-      ∙ ap (λ (z : ℤ). is_energy z && all is_energy (drop (i + 1) xs)) (sym (back (get_or xs i (pos 0)) fits))
-
-  pub no_energy : (t : Bool) → t ≡ is_energy (held (get_or xs i (pos 0))) → t ≡ false → false ≡ all is_energy xs
-  no_energy t h e = sym (at_place ∙ ap (λ (u : Bool). u && all is_energy (drop (i + 1) xs)) (sym h ∙ e))
-
-  pub one_energy : (t : Bool) → t ≡ is_energy (held (get_or xs i (pos 0))) → t ≡ true → all is_energy xs ≡ all is_energy (drop (i + 1) xs)
-  one_energy t h e = at_place ∙ ap (λ (u : Bool). u && all is_energy (drop (i + 1) xs)) (sym h ∙ e)
-
-pub all_passed : (xs : List ℤ) (i : ℕ) → i ≤ length xs → length xs ≤ i → all is_energy xs ≡ all is_energy (drop i xs) → true ≡ all is_energy xs
-all_passed xs i low high h = sym (h ∙ ap (all is_energy) (drop_all xs i low high))
-
--- ---- the number of a refusal, by the energies of both lists
-
-pub energy_of_first : (t u : Bool) → t ≡ false → bad_energies ≡ cond (t && u) bad_price bad_energies
-energy_of_first t u e = rw e
-
-pub energy_of_second : (t u : Bool) → u ≡ false → bad_energies ≡ cond (t && u) bad_price bad_energies
-energy_of_second true u e = rw e
-energy_of_second false u e = refl
+pub all_listed : (xs : List ℤ) → list_all is_energy xs ≡ all is_energy xs
+all_listed [] = refl
+all_listed (x ∷ xs) = ap (λ (t : Bool). is_energy x && t) (all_listed xs)
 
 -- ---- the three lists together
 
@@ -129,11 +109,11 @@ pub record Summing (amounts balanced prices : List ℤ) (exact : ℤ) (i : ℕ) 
   pub left : correction_over (gaps_of amounts balanced prices) ≡ rest exact (gaps_of (drop i amounts) (drop i balanced) (drop i prices))
 
 module _ (amounts balanced prices : List ℤ) (b : length balanced ≡ length amounts) (p : length prices ≡ length amounts) where
-  abbrev answer : Corrected
-  answer = corrected_of (correction_over (gaps_of amounts balanced prices))
+  abbrev answer : Outcome Money
+  answer = correction_over (gaps_of amounts balanced prices)
 
-  pub many_refused : 2976 < length amounts → (r : Corrected) → r ≡ corrected_of (refused bad_energies) → r ≡ answer
-  many_refused h r is = is ∙ sym (ap corrected_of (too_many (gaps_of amounts balanced prices) (lt-leb (length (gaps_of amounts balanced prices)) 2976 (omega (arith, gaps_length amounts balanced prices b p)))))
+  pub many_refused : 2976 < length amounts → refused bad_energies ≡ answer
+  many_refused h = sym (too_many (gaps_of amounts balanced prices) (lt-leb (length (gaps_of amounts balanced prices)) 2976 (omega (arith, gaps_length amounts balanced prices b p))))
 
   pub sum_begins : length amounts ≤ 2976 → Summing amounts balanced prices (pos 0) 0
   sum_begins h = record {
@@ -143,10 +123,10 @@ module _ (amounts balanced prices : List ℤ) (b : length balanced ≡ length am
   }
 
   module _ (exact : ℤ) (i : ℕ) (s : Summing amounts balanced prices exact i) where
-    pub sum_ends : length amounts ≤ i → (money : Money) → money ≡ money_of (millionths exact) → record { refusal = 0; money = money } ≡ answer
+    pub sum_ends : length amounts ≤ i → (money : Money) → money ≡ money_of (millionths exact) → given money ≡ answer
     sum_ends h money is =
         let e = drop_all amounts i s.inside h in
-        ap (λ (m : Money). corrected_of (given m)) is ∙ sym (ap corrected_of (s.left ∙ ap (λ (l : List ℤ). rest exact (gaps_of l (drop i balanced) (drop i prices))) e ∙ ends exact))
+        ap given is ∙ sym (s.left ∙ ap (λ (l : List ℤ). rest exact (gaps_of l (drop i balanced) (drop i prices))) e ∙ ends exact)
 
     module _ (within : i < length amounts) where
       -- the quarter at this place
@@ -169,9 +149,11 @@ module _ (amounts balanced prices : List ℤ) (b : length balanced ≡ length am
       abbrev part : List ℤ → List ℤ
       part xs = take (length xs - i) (drop i xs)
 
-      parts_are : (all is_energy (part amounts) && all is_energy (part balanced)) ≡ all energies_allowed (at ∷ behind)
+      parts_are : (list_all is_energy (part amounts) && list_all is_energy (part balanced)) ≡ all energies_allowed (at ∷ behind)
       parts_are =
-          ap₂ (λ (k l : List ℤ). all is_energy k && all is_energy l) (part_to_end amounts i) (part_to_end balanced i) ∙ sym energies_from
+          ap₂ (λ (k l : List ℤ). list_all is_energy k && list_all is_energy l) (part_to_end amounts i) (part_to_end balanced i)
+          ∙ ap₂ ◌&&◌ (all_listed (drop i amounts)) (all_listed (drop i balanced))
+          ∙ sym energies_from
 
       -- its numbers as the code reads them
       abbrev read : Gap
@@ -185,11 +167,10 @@ module _ (amounts balanced prices : List ℤ) (b : length balanced ≡ length am
         tests_are t h = h ∙ ap (λ (g : Gap). energies_allowed g && price_allowed g) read_is
 
         pub sum_stops : (t : Bool) → t ≡ (energies_allowed read && price_allowed read) → t ≡ false
-            → (n : ℕ) → n ≡ cond (all is_energy (part amounts) && all is_energy (part balanced)) bad_price bad_energies
-            → (r : Corrected) → r ≡ corrected_of (refused n) → r ≡ answer
-        sum_stops t h e n k r is =
-            is ∙ sym (ap corrected_of
-            (s.left ∙ ap (rest exact) from_here ∙ stops exact at behind (sym (tests_are t h) ∙ e) ∙ ap (λ (u : Bool). refused (cond u bad_price bad_energies)) (sym parts_are) ∙ ap refused (sym k)))
+            → (n : ℕ) → n ≡ cond (list_all is_energy (part amounts) && list_all is_energy (part balanced)) bad_price bad_energies
+            → refused n ≡ answer
+        sum_stops t h e n k =
+            sym (s.left ∙ ap (rest exact) from_here ∙ stops exact at behind (sym (tests_are t h) ∙ e) ∙ ap (λ (u : Bool). refused (cond u bad_price bad_energies)) (sym parts_are) ∙ ap refused (sym k))
 
         module _ (t : Bool) (h : t ≡ (energies_allowed read && price_allowed read)) (e : t ≡ true) where
           tests : (energies_allowed at ≡ true) × (price_allowed at ≡ true)
@@ -222,18 +203,22 @@ module _ (amounts balanced prices : List ℤ) (b : length balanced ≡ length am
 
 -- ---- 22 before all else
 
-module _ (amounts balanced prices : List ℤ) (r : Corrected) where
-  lengths_differ : (eqb (length balanced) (length amounts) && eqb (length prices) (length amounts)) ≡ false → r ≡ corrected_of (refused unequal_lists) → Corrects amounts balanced prices r
+module _ (amounts balanced prices : List ℤ) where
+  lengths_differ : (eqb (length balanced) (length amounts) && eqb (length prices) (length amounts)) ≡ false → refused unequal_lists ≡ correction amounts balanced prices
   unfolding correction ◌>>◌ require
-  lengths_differ e is = record { answers = rw e is }
+  lengths_differ e = rw e
 
-  pub balanced_differ : eqb (length balanced) (length amounts) ≡ false → r ≡ corrected_of (refused unequal_lists) → Corrects amounts balanced prices r
-  balanced_differ e is = lengths_differ (rw e) is
+  pub balanced_differ : eqb (length balanced) (length amounts) ≡ false → refused unequal_lists ≡ correction amounts balanced prices
+  balanced_differ e = lengths_differ (rw e)
 
   module _ (b : eqb (length balanced) (length amounts) ≡ true) where
-    pub prices_differ : eqb (length prices) (length amounts) ≡ false → r ≡ corrected_of (refused unequal_lists) → Corrects amounts balanced prices r
-    prices_differ e is = lengths_differ (rw (b, e)) is
+    pub prices_differ : eqb (length prices) (length amounts) ≡ false → refused unequal_lists ≡ correction amounts balanced prices
+    prices_differ e = lengths_differ (rw (b, e))
 
-    pub as_long : eqb (length prices) (length amounts) ≡ true → r ≡ corrected_of (correction_over (gaps_of amounts balanced prices)) → Corrects amounts balanced prices r
+    pub as_long : eqb (length prices) (length amounts) ≡ true → correction_over (gaps_of amounts balanced prices) ≡ correction amounts balanced prices
     unfolding correction ◌>>◌ require
-    as_long e is = record { answers = rw (b, e) is }
+    as_long e = rw (b, e)
+
+-- so the call's answer with zeros for a refusal
+pub corrects : {amounts balanced prices : List ℤ} {o : Outcome Money} → o ≡ correction amounts balanced prices → Corrects amounts balanced prices (corrected_of o)
+corrects e = record { answers = ap corrected_of e }

@@ -3,13 +3,14 @@
 
 ghost use Rattle.std.specs.Prelude.{◌≡◌, true, cond, ◌&&◌, ◌<◌, ◌^◌, ◌+ℤ◌, length};
 ghost use Rattle.std.specs.Int.Signed.{mag};
-ghost use Rattle.rules.specs.Outcome.{refused};
+ghost use Rattle.std.specs.List.{list_all};
 ghost use Rattle.rules.specs.Refusals.{bad_energies, bad_price};
-ghost use Rattle.rules.specs.Numbers.{all};
-ghost use Rattle.rules.specs.Correction.{gap_of, gaps_of, is_energy, is_price, energies_allowed, price_allowed, cost_of, money_of, correction_over, corrected_of};
+ghost use Rattle.rules.specs.Correction.{gaps_of, is_energy, is_price, energies_allowed, price_allowed, cost_of, money_of, correction_over, correction, corrected_of};
 ghost use Rattle.rules.specs.Promises.{Corrects};
+ghost use Rattle.rules.specs.Results.{number, outcome};
+ghost use Rattle.correction.specs.Gaps.{meant};
 
-use rules::{Corrected, MillionthCent, Money, Price, refusal};
+use rules::{Corrected, MillionthCent, Money, Price, Refusal};
 use units::WattHour;
 
 // ---- one quarter
@@ -17,30 +18,40 @@ use units::WattHour;
 fn is_energy(energy: WattHour) -> bool
     ensures { result ≡ is_energy energy.0 }
 {
-    (-1000000000 <= energy.0) & (energy.0 <= 1000000000)
+    (-1000000000..=1000000000).contains(&energy.0)
 }
 
 fn is_price(price: Price) -> bool
     ensures { result ≡ is_price price }
 {
-    (-1000000 <= price.0) & (price.0 <= 1000000)
+    (-1000000..=1000000).contains(&price.0)
 }
 
-fn is_allowed(amount: WattHour, balanced: WattHour, price: Price) -> bool
-    ensures { result ≡ (energies_allowed (gap_of amount.0 balanced.0 price.0) && price_allowed (gap_of amount.0 balanced.0 price.0)) }
+// A quarter's amount and balanced energy, and its price.
+#[derive(Clone, Copy)]
+struct Gap {
+    amount: WattHour,
+    balanced: WattHour,
+    price: Price,
+}
+
+fn is_allowed(gap: Gap) -> bool
+    ensures { result ≡ (energies_allowed (meant gap) && price_allowed (meant gap)) }
 {
-    is_energy(amount) & is_energy(balanced) & is_price(price)
+    is_energy(gap.amount) & is_energy(gap.balanced) & is_price(gap.price)
 }
 
 // (amount - balanced) × price: at most 2 × 10^15 either way.
-fn cost_of(amount: WattHour, balanced: WattHour, price: Price) -> MillionthCent
-    requires price_value { energies_allowed (gap_of amount.0 balanced.0 price.0) ≡ true }
-    requires price_value_2 { price_allowed (gap_of amount.0 balanced.0 price.0) ≡ true }
-    ensures { result ≡ cost_of (gap_of amount.0 balanced.0 price.0) }
+#[tactic(auto, using(crate::proofs::Costs::cost_fits, crate::proofs::Costs::cost_is))]
+fn cost_of(gap: Gap) -> MillionthCent
+    requires price_value { energies_allowed (meant gap) ≡ true }
+    requires price_value_2 { price_allowed (meant gap) ≡ true }
+    ensures { result ≡ cost_of (meant gap) }
 {
-    MillionthCent((amount.0 - balanced.0) * price.0)
+    MillionthCent((gap.amount.0 - gap.balanced.0) * gap.price.0)
 }
 
+// A function, since MillionthCent is a type of crate rules: only there could an impl of Add for it stand.
 fn plus(a: MillionthCent, b: MillionthCent) -> MillionthCent
     requires { mag (a.0 +ℤ b.0) < 2 ^ 63 }
     ensures { result.0 ≡ a.0 +ℤ b.0 }
@@ -50,93 +61,81 @@ fn plus(a: MillionthCent, b: MillionthCent) -> MillionthCent
 
 // ---- whole cents
 
-// Rounded down, which division isn't below zero.
+// Rounded down.
 fn money_of(exact: MillionthCent) -> Money
     ensures { result ≡ money_of exact }
 {
-    let cents = exact.0 / 1000000;
-    let rest = exact.0 % 1000000;
-    if rest < 0 {
-        return Money {
-            cents: cents - 1,
-            remainder: (rest + 1000000) as u64,
-        };
-    }
     Money {
-        cents,
-        remainder: rest as u64,
+        cents: exact.0.div_euclid(1000000),
+        remainder: exact.0.rem_euclid(1000000) as u64,
     }
 }
 
 // ---- the lists
 
 fn all_energies(energies: &[i64]) -> bool
-    ensures { result ≡ all is_energy energies.now }
+    ensures { result ≡ list_all is_energy energies.now }
 {
-    let mut place = 0;
-    while place < energies.len() {
-        if !is_energy(WattHour(energies[place])) {
-            return false;
-        }
-        place += 1;
-    }
-    true
-}
-
-// A refusal has zero for both results.
-fn refused_with(number: u64) -> Corrected
-    ensures { result ≡ corrected_of (refused number) }
-{
-    let money = Money {
-        cents: 0,
-        remainder: 0,
-    };
-    Corrected {
-        refusal: number,
-        money,
-    }
+    energies.iter().all(|energy| is_energy(WattHour(*energy)))
 }
 
 // Asked where a quarter isn't allowed, of the energies from it on: 20 where one of these is beyond its range, else 21, for the price.
-fn refusal_number(amounts: &[i64], balanced: &[i64]) -> u64
-    ensures { result ≡ cond (all is_energy amounts.now && all is_energy balanced.now) bad_price bad_energies }
+fn refusal_from(amounts: &[i64], balanced: &[i64]) -> Refusal
+    ensures { number result ≡ cond (list_all is_energy amounts.now && list_all is_energy balanced.now) bad_price bad_energies }
 {
     if all_energies(amounts) && all_energies(balanced) {
-        return refusal::BAD_PRICE;
+        return Refusal::BadPrice;
     }
-    refusal::BAD_ENERGIES
+    Refusal::BadEnergies
 }
 
 // Lists that are equally long, in one pass up to the first quarter that isn't allowed.
-fn correction_over(amounts: &[i64], balanced: &[i64], prices: &[i64]) -> Corrected
+fn correction_over(amounts: &[i64], balanced: &[i64], prices: &[i64]) -> Result<Money, Refusal>
     requires { (length balanced.now ≡ length amounts.now) × (length prices.now ≡ length amounts.now) }
-    ensures { result ≡ corrected_of (correction_over (gaps_of amounts.now balanced.now prices.now)) }
+    ensures { outcome result ≡ correction_over (gaps_of amounts.now balanced.now prices.now) }
 {
     if 2976 < amounts.len() {
-        return refused_with(refusal::BAD_ENERGIES);
+        return Err(Refusal::BadEnergies);
     }
     let mut exact = MillionthCent(0);
-    let mut i = 0;
-    while i < amounts.len() {
-        let amount = WattHour(amounts[i]);
-        let balance = WattHour(balanced[i]);
-        let price = Price(prices[i]);
-        if !is_allowed(amount, balance, price) {
-            return refused_with(refusal_number(&amounts[i..], &balanced[i..]));
+    // A zip of the three lists would look for an end once more in every quarter.
+    for (i, amount) in amounts.iter().enumerate() {
+        let gap = Gap {
+            amount: WattHour(*amount),
+            balanced: WattHour(balanced[i]),
+            price: Price(prices[i]),
+        };
+        if !is_allowed(gap) {
+            return Err(refusal_from(&amounts[i..], &balanced[i..]));
         }
-        exact = plus(exact, cost_of(amount, balance, price));
-        i += 1;
+        exact = plus(exact, cost_of(gap));
     }
-    let money = money_of(exact);
-    Corrected { refusal: 0, money }
+    Ok(money_of(exact))
 }
 
 // Amounts and balanced energies in Wh, prices in cents per MWh, a place of each list for every quarter.
-pub fn correction(amounts: &[i64], balanced: &[i64], prices: &[i64]) -> Corrected
-    ensures { Corrects amounts.now balanced.now prices.now result }
+pub fn correction(amounts: &[i64], balanced: &[i64], prices: &[i64]) -> Result<Money, Refusal>
+    ensures is { outcome result ≡ correction amounts.now balanced.now prices.now }
+    ensures corrects { Corrects amounts.now balanced.now prices.now (corrected_of (outcome result)) }
 {
     if balanced.len() != amounts.len() || prices.len() != amounts.len() {
-        return refused_with(refusal::UNEQUAL_LISTS);
+        return Err(Refusal::UnequalLists);
     }
     correction_over(amounts, balanced, prices)
+}
+
+// As document 01 has every call tell it: the number of its refusal or 0, and zero for both results where it is refused.
+pub fn corrected(answer: Result<Money, Refusal>) -> Corrected
+    ensures { result ≡ corrected_of (outcome answer) }
+{
+    match answer {
+        Ok(money) => Corrected { refusal: 0, money },
+        Err(refusal) => Corrected {
+            refusal: refusal.number() as u64,
+            money: Money {
+                cents: 0,
+                remainder: 0,
+            },
+        },
+    }
 }

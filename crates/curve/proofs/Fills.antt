@@ -57,8 +57,6 @@ module _ (a b : Point) where
 -- the line from a to b is filled in as far as this speed, where slope and raise have come to these
 pub record Filling (a b : Point) (start powers : List ℕ) (speed risen raised : ℕ) : Type 0 where
   pub same : filled a b (b.speed - a.speed) a.speed start ≡ filled a b (b.speed - speed) speed powers
-  pub from : a.speed ≤ speed
-  pub until : speed ≤ b.speed
   pub line : OnLine a b speed risen raised
   pub size : length powers ≡ length start
 

@@ -70,17 +70,6 @@ line_starts a b =
     let z : a.speed - a.speed ≡ 0 = omega arith in
     record { slopes = rw z (omega arith); raises = rw z (omega arith) }
 
--- one speed on
-module _ {v : ℕ} where
-  pub on_from : {start : ℕ} → start ≤ v → start ≤ v + 1
-  on_from h = omega arith
-
-  pub on_until : {end : ℕ} → v < end → v + 1 ≤ end
-  on_until h = omega arith
-
-  pub on_nearer : {end : ℕ} → v < end → end - (v + 1) < end - v
-  on_nearer h = omega arith
-
 module _ {a b : Point} (p : Piece a b) where
   abbrev width : ℕ
   width = b.speed - a.speed

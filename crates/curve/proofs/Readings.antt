@@ -54,13 +54,13 @@ module _ (curve : Curve) (powers : List ℕ) (v : ℕ) (x : CurveReading) (e : x
       go false true = omega arith
       go false false = readable.low v
 
-  pub says : (answer : CurveReading) → x ≡ answer → PowerAt curve powers v (power_in answer)
+  pub says : PowerAt curve powers v (power_in x)
   unfolding curve_power
-  says answer t = record {
+  says = record {
     is = λ points tabulates. p ∙ ap (λ (r : reference.CurveReading). pos (power_of r)) (tabulates.agrees v readable.speed_low);
     natural = p ∙ ap (λ (y : ℤ). pos (or_zero y)) (sym p);
     low = rw p low_power;
   }
     where
-      p : power_in answer ≡ pos (power_of (table_reading curve powers v))
-      p = ap power_in (sym t ∙ e) ∙ power_is (table_reading curve powers v)
+      p : power_in x ≡ pos (power_of (table_reading curve powers v))
+      p = ap power_in e ∙ power_is (table_reading curve powers v)

@@ -9,6 +9,8 @@ ghost use Rattle.curve.specs.Answers.{reading_answer};
 use units::{Speed, Watt};
 
 // The speeds of the first and the last point; `powers` beside it holds the power at each speed from the one to the other.
+// Two values, as Tabulates, Held and Means name them, since the table lies in memory that the caller lends to be filled; a slice, since a
+// reference that needs no curve asks for no table.
 #[derive(Clone, Copy)]
 pub struct Curve {
     pub first: u64,
@@ -17,6 +19,7 @@ pub struct Curve {
 
 // ---- the curve at a speed
 
+// Three cases, as the book's read_curve has.
 #[derive(Clone, Copy)]
 enum CurveReading {
     Below,
@@ -28,10 +31,10 @@ fn read_curve(curve: Curve, powers: &[u32], speed: Speed) -> CurveReading
     requires { Readable powers.now speed.0 }
     ensures { result ≡ reading_answer (table_reading curve powers.now speed.0) }
 {
-    if units::is_below(speed, Speed(curve.first)) {
+    if speed < Speed(curve.first) {
         return CurveReading::Below;
     }
-    if units::is_below(Speed(curve.last), speed) {
+    if Speed(curve.last) < speed {
         return CurveReading::Above;
     }
     let i = speed.0 as usize;
@@ -43,8 +46,7 @@ pub fn power_at(curve: Curve, powers: &[u32], speed: Speed) -> Watt
     requires { Readable powers.now speed.0 }
     ensures { PowerAt curve powers.now speed.0 result.0 }
 {
-    let reading = read_curve(curve, powers, speed);
-    match reading {
+    match read_curve(curve, powers, speed) {
         CurveReading::Below => Watt(0),
         CurveReading::On(power) => power,
         CurveReading::Above => Watt(0),
@@ -63,14 +65,11 @@ pub fn fill(powers: &mut [u32], s0: u64, p0: u64, s1: u64, p1: u64)
     let width = s1 - s0;
     let change = p1 + 1000000000 * width - p0;
     let slope = (1048576 * change + width - 1) / width;
-    let mut speed = s0;
     let mut risen: u64 = 0;
     let mut raised: u64 = 0;
-    while speed < s1 {
-        let i = speed as usize;
-        powers[i] = (p0 + risen / 1048576 - raised) as u32;
+    for speed in s0..s1 {
+        powers[speed as usize] = (p0 + risen / 1048576 - raised) as u32;
         risen += slope;
         raised += 1000000000;
-        speed += 1;
     }
 }

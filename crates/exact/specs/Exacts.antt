@@ -1,26 +1,16 @@
 -- What the code says of a quarter's exact magnitude.
-use Rattle.std.specs.Prelude.{◌≡◌, Bool, true, false, List, ℕ, ◌≤◌, ℤ, length}
+use Rattle.std.specs.Prelude.{◌≡◌, Bool, true, false, List, ℕ, ◌≤◌, ℤ, Option, Some, None}
 use Rattle.std.specs.Int.Signed.{mag}
 use Rattle.rules.specs.Archive.{field_at}
 use Rattle.rules.specs.Terms.{Terms, reading_at, Quarter}
 use Rattle.rules.specs.Reference.{Reference, exact_of}
 use Rattle.rules.specs.Settle.{readable}
-use Rattle.reference.specs.declared.Reference as code
-use Rattle.reference.specs.References.{Held, Divides}
-use Rattle.exact.specs.declared.Exact.{Exact}
-use Rattle.exact.specs.declared.Exact.TheVariants as exact
 
 -- numbers whose magnitude 64 bits hold
 pub record Room (d : ℕ) (t l : ℤ) : Type 0 where
   pub divisor : d ≤ 4000000000
   pub reference : mag t ≤ 4000000000000000000
   pub limit : mag l ≤ 1000000000
-
--- what a quarter's magnitude needs: a reference, D, and 32 bytes
-pub record Ready (reference : code.Reference) (d : ℕ) (powers r : List ℕ) : Type 0 where
-  pub held : Held reference powers
-  pub divides : Divides reference d
-  pub size : length r ≡ 32
 
 -- a quarter whose powers are those of a record's bytes
 pub record ReadFrom (r : List ℕ) (q : Quarter) : Type 0 where
@@ -30,10 +20,10 @@ pub record ReadFrom (r : List ℕ) (q : Quarter) : Type 0 where
   pub market_adjustment : q.market_adjustment ≡ reading_at r 28
 
 -- the numerator of the exact magnitude over 4 × D; or a needed field is out of range
-abbrev pub exact_answer : Bool → ℕ → Exact
-exact_answer true m = exact.Of m
-exact_answer false m = exact.OutOfRange
+abbrev pub exact_answer : Bool → ℕ → Option ℕ
+exact_answer true m = Some m
+exact_answer false m = None
 
 -- the answer to a quarter of a measure
-abbrev pub quarter_answer : Terms → Reference → Quarter → Exact
+abbrev pub quarter_answer : Terms → Reference → Quarter → Option ℕ
 quarter_answer terms ref q = exact_answer (readable terms ref q) (exact_of terms ref q)

@@ -1,56 +1,39 @@
 -- The rows of the plant factor, in the order in which the code tests them.
-use mathlib.Core.Path.{◌≡◌, ◌∙◌, ap}
-use mathlib.Core.Bool.{Bool, true, false, beq, ◌&&◌, ◌||◌}
-use mathlib.Core.List.{◌∷◌}
-use Prim.Native.Nat.{ℕ, suc, ◌-◌, ◌≤◌, ◌<◌}
+use mathlib.Core.Path.{◌≡◌, refl, sym, ◌∙◌, ap}
+use mathlib.Core.Bool.{Bool, true, false}
+use mathlib.Core.List.{List, [], ◌∷◌, ◌++◌}
+use Prim.Native.Nat.{ℕ}
 use native.Mathlib.Omega.{arith}
-use borrow.Author.Tests.{lt-ltb, le-ltb}
-use lib.Dec.{leb, ltb}
-use lib.Seq.{drop-cons}
-use lib.ListN.{get_or, drop}
+use lib.ListN.{length}
+use Rattle.std.proofs.Common.{append_assoc}
+use Rattle.std.proofs.lemmas.List.{append-nil}
 use Rattle.rules.specs.declared.FactorRow.{FactorRow}
 use Rattle.rules.specs.Reference.{factor_rows, is_for, first_for}
 
--- `a && b` and `a || b`, as the code answers them
-pub and_yes : (a b : Bool) → a ≡ true → b ≡ (a && b)
-and_yes a b e = rw e
+-- the rows that were come to, from the last one on, and those ahead
+pub record Looked (summer : Bool) (q factor : ℕ) (ahead : List FactorRow) : Type 0 where
+  pub behind : List FactorRow
+  pub all : ahead ++ behind ≡ factor_rows
+  pub is : factor ≡ first_for summer q behind
 
-pub and_no : (a b : Bool) → a ≡ false → a ≡ (a && b)
-and_no a b e = rw e
+module _ (summer : Bool) (q : ℕ) where
+  pub looked_none : {ahead : List FactorRow} → ahead ≡ factor_rows → Looked summer q 0 ahead
+  looked_none {ahead} e = record { behind = []; all = append-nil ahead ∙ e; is = refl }
 
-pub or_yes : (a b : Bool) → a ≡ true → a ≡ (a || b)
-or_yes a b e = rw e
+  module _ {factor : ℕ} {ahead : List FactorRow} (l : Looked summer q factor ahead) where
+    module _ (r : FactorRow) (rest : List FactorRow) (turn : ahead ≡ rest ++ (r ∷ [])) where
+      all_still : rest ++ (r ∷ l.behind) ≡ factor_rows
+      all_still = sym (append_assoc rest (r ∷ []) l.behind) ∙ rw turn at l.all
 
-pub or_no : (a b : Bool) → a ≡ false → b ≡ (a || b)
-or_no a b e = rw e
+      pub row_taken : true ≡ is_for summer q r → Looked summer q r.factor rest
+      row_taken e = record { behind = r ∷ l.behind; all = all_still; is = rw (← e) }
 
-module _ (r : FactorRow) (summer : Bool) (q : ℕ) where
-  pub row_other : beq r.summer summer ≡ false → false ≡ is_for summer q r
-  unfolding is_for
-  row_other e = rw e
+      pub row_left : false ≡ is_for summer q r → Looked summer q factor rest
+      row_left e = record { behind = r ∷ l.behind; all = all_still; is = l.is ∙ rw (← e) }
 
-  module _ (season : beq r.summer summer ≡ true) where
-    pub row_day : r.from < r.until → (leb r.from q && ltb q r.until) ≡ is_for summer q r
-    unfolding is_for
-    row_day h = rw (season, lt-ltb r.from r.until h)
-
-    pub row_night : r.until ≤ r.from → (leb r.from q || ltb q r.until) ≡ is_for summer q r
-    unfolding is_for
-    row_night h = rw (season, le-ltb r.from r.until h)
-
-abbrev none : FactorRow
-none = record { summer = false; from = 0; until = 0; factor = 0 }
-
--- the row before place i, which the code comes to next
-module _ (summer : Bool) (q i : ℕ) (h : 0 < i) (k : i ≤ 8) where
-  from_row : drop (i - 1) factor_rows ≡ get_or factor_rows (i - 1) none ∷ drop i factor_rows
-  unfolding factor_rows
-  from_row =
-      let e : suc (i - 1) ≡ i = omega arith in
-      drop-cons factor_rows (i - 1) none (omega arith) ∙ ap (λ (n : ℕ). get_or factor_rows (i - 1) none ∷ drop n factor_rows) e
-
-  pub row_taken : is_for summer q (get_or factor_rows (i - 1) none) ≡ true → (get_or factor_rows (i - 1) none).factor ≡ first_for summer q (drop (i - 1) factor_rows)
-  row_taken e = rw (from_row, e)
-
-  pub row_left : is_for summer q (get_or factor_rows (i - 1) none) ≡ false → first_for summer q (drop i factor_rows) ≡ first_for summer q (drop (i - 1) factor_rows)
-  row_left e = rw (from_row, e)
+    pub looked_all : length ahead ≡ 0 → factor ≡ first_for summer q factor_rows
+    looked_all e = l.is ∙ ap (first_for summer q) (by ahead e l.all)
+      where
+        by : (rows : List FactorRow) → length rows ≡ 0 → rows ++ l.behind ≡ factor_rows → l.behind ≡ factor_rows
+        by [] z a = a
+        by (r ∷ rows) z a = absurd (omega arith)

@@ -62,10 +62,11 @@ const ROWS: [FactorRow; 8] = [
 fn is_summer(month: u64) -> bool
     ensures { result ≡ is_summer month }
 {
-    3 <= month && month <= 10
+    (3..=10).contains(&month)
 }
 
 // A row is for this season and quarter of the day; it goes over midnight where `until` is the smaller.
+#[tactic(auto, unfolding(rules::specs::Reference::is_for))]
 fn is_for(r: FactorRow, summer: bool, quarter: u64) -> bool
     ensures { result ≡ is_for summer quarter r }
 {
@@ -73,25 +74,22 @@ fn is_for(r: FactorRow, summer: bool, quarter: u64) -> bool
         return false;
     }
     if r.from < r.until {
-        r.from <= quarter && quarter < r.until
+        (r.from..r.until).contains(&quarter)
     } else {
         r.from <= quarter || quarter < r.until
     }
 }
 
 // The factor of the first row that is for the month's season and the quarter of the day. From the last row to the first and without a
-// way out, so that the rows compile to constants and no table is laid out at a call.
+// way out: so the rows compile to constants, where `find` from the first row on reads a table. Month and quarter of the day come from a date
+// or from a record's bytes, in range or not, so no type has both.
 pub fn plant_factor(month: u64, quarter: u64) -> u64
     ensures { result ≡ plant_factor month quarter }
 {
     let summer = is_summer(month);
-    let rows = ROWS;
     let mut factor: u64 = 0;
-    let mut i: usize = 8;
-    while 0 < i {
-        i -= 1;
-        let r = rows[i];
-        if is_for(r, summer, quarter) {
+    for r in ROWS.iter().rev() {
+        if is_for(*r, summer, quarter) {
             factor = r.factor;
         }
     }

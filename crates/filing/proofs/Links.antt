@@ -1,19 +1,13 @@
 -- The tests 14 and 15 of append, link by link, over plain variables.
-use mathlib.Core.Path.{◌≡◌, refl, ◌∙◌}
-use mathlib.Core.Bool.{Bool, true, false, cond}
-use mathlib.Core.List.{List, ◌∷◌}
-use Prim.Native.Nat.{ℕ, ◌+◌}
-use lib.Dec.{eqb}
-use lib.ListN.{drop}
-use borrow.Author.Tests.{eq-eqb, ne_eqb}
-use Rattle.rules.specs.Outcome.{refused, given}
+use Rattle.std.proofs.Common.{◌≡◌, ℕ, ◌+◌, ◌<◌, true, false, List, eqb, drop, refl, ◌∙◌}
+use borrow.Author.Tests.{eq-eqb, ne_eqb, lt-ltb}
+use Rattle.rules.specs.Outcome.{refused, given, ◌>>◌, require}
 use Rattle.rules.specs.Refusals.{bad_owner}
-use Rattle.rules.specs.Numbers.{all, keep}
+use Rattle.rules.specs.Numbers.{all}
 use Rattle.rules.specs.Archive.{link_at}
-use Rattle.rules.specs.Links.{Link, link, links_of, links_at}
+use Rattle.rules.specs.Links.{links_of, owned_at}
 use Rattle.rules.specs.Filing.{new_allowed, offset_in, offset_for}
-use Rattle.rules.proofs.Owners.{is_owned}
-use Rattle.record.proofs.Slots.{Here, Past}
+use Rattle.record.proofs.Linked.{Here, Past}
 
 -- 14: the links from i on decide
 pub record NewFrom (new : List ℕ) (i : ℕ) : Type 0 where
@@ -32,25 +26,19 @@ module _ {new : List ℕ} {i : ℕ} (n : NewFrom new i) where
 
 -- 15: the owned links from i on decide
 pub record OffsetFrom (archive : List ℕ) (used owner kind i : ℕ) : Type 0 where
-  pub is : offset_for archive used owner kind ≡ offset_in (keep is_owned (drop i (links_at archive owner))) kind
+  pub is : offset_for archive used owner kind ≡ offset_in (drop i (owned_at archive owner)) kind
+
+pub offset_all : (archive : List ℕ) (used owner kind : ℕ) → owner < used → OffsetFrom archive used owner kind 0
+unfolding offset_for ◌>>◌ require
+offset_all archive used owner kind h = record { is = rw (lt-ltb owner used h) refl }
 
 module _ {archive : List ℕ} {used owner kind i : ℕ} (o : OffsetFrom archive used owner kind i) where
-  pub offset_none : Past (links_at archive owner) i → offset_for archive used owner kind ≡ refused bad_owner
+  pub offset_none : Past (owned_at archive owner) i → offset_for archive used owner kind ≡ refused bad_owner
   offset_none p = o.is ∙ rw p.from
 
-  module _ {at to : ℕ} (h : Here (links_at archive owner) i at to) where
-    pub offset_is : (at ≡ 4 → ⊥) → eqb to kind ≡ true → offset_for archive used owner kind ≡ given at
-    offset_is f e = o.is ∙ rw (h.from, ne_eqb at 4 f, e)
+  module _ {at to : ℕ} (h : Here (owned_at archive owner) i at to) where
+    pub offset_is : to ≡ kind → offset_for archive used owner kind ≡ given at
+    offset_is e = o.is ∙ rw (h.from, eq-eqb to kind e)
 
-    pub offset_next : at ≡ 4 → OffsetFrom archive used owner kind (i + 1)
-    offset_next e = record { is = o.is ∙ rw (h.from, eq-eqb at 4 e) }
-
-    pub offset_other : eqb to kind ≡ false → OffsetFrom archive used owner kind (i + 1)
-    offset_other f = record { is = o.is ∙ rw h.from (go (is_owned (link at to))) }
-      where
-        rest : List Link
-        rest = keep is_owned (drop (i + 1) (links_at archive owner))
-
-        go : (t : Bool) → offset_in (cond t (link at to ∷ rest) rest) kind ≡ offset_in rest kind
-        go true = rw f
-        go false = refl
+    pub offset_other : (to ≡ kind → ⊥) → OffsetFrom archive used owner kind (i + 1)
+    offset_other f = record { is = o.is ∙ rw (h.from, ne_eqb to kind f) }

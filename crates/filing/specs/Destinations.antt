@@ -1,17 +1,17 @@
 -- What the answers of the code stand for: document 01's number and values for each case.
-use Rattle.std.specs.Prelude.{ℕ, ◌+◌, ◌*◌, ◌≤◌, ◌<◌, ◌≡◌, List, length}
-use Rattle.rules.specs.Outcome.{Outcome, refused, given}
+use Rattle.std.specs.Prelude.{ℕ, ◌+◌, ◌*◌, ◌≤◌, ◌<◌, ◌≡◌, true, false, List, length, Option, Some, None, Result, Ok, Err}
+use Rattle.std.specs.Borrow.{Bor}
+use Rattle.rules.specs.Outcome.{refused, given}
+use Rattle.rules.specs.Results.{number}
 use Rattle.rules.specs.Archive.{link_at, used_of}
-use Rattle.rules.specs.Filing.{append_after, append}
-use Rattle.filing.specs.declared.Offset.{Offset}
-use Rattle.filing.specs.declared.Offset.TheVariants as offset
+use Rattle.rules.specs.Filing.{new_allowed, append_after, append}
+use Rattle.rules.specs.declared.refusal.Refusal.{Refusal}
 use Rattle.filing.specs.declared.Destination.{Destination}
-use Rattle.filing.specs.declared.Destination.TheVariants as destination
 
--- the byte of the owner's link, or 15
-abbrev pub offset_outcome : Offset → Outcome ℕ
-offset_outcome (offset.At at) = given at
-offset_outcome (offset.Refused n) = refused n
+-- the new record as it was given, or 14
+abbrev pub Allowed : List ℕ → Option (Bor (List ℕ)) → Type 0
+Allowed new (Some r) = (new_allowed new ≡ true) × (r.now ≡ new)
+Allowed new None = new_allowed new ≡ false
 
 -- a new record can be written at number `used` and the link to it at a place
 pub record HasRoom (archive : List ℕ) (used place : ℕ) (new : List ℕ) : Type 0 where
@@ -30,7 +30,7 @@ pub record EndsAt (archive : List ℕ) (used place : ℕ) : Type 0 where
   pub was_zero : link_at archive place ≡ 0
 
 -- append is refused, or writes the record at number `used` and the link to it at a place
-abbrev pub Goes : List ℕ → ℕ → List ℕ → Destination → Type 0
-Goes archive owner new (destination.Refused n) = append archive owner new ≡ refused n
-Goes archive owner new (destination.At used place) =
-    (append archive owner new ≡ given (append_after archive used place new)) × HasRoom archive used place new × EndsAt archive used place
+abbrev pub Goes : List ℕ → ℕ → List ℕ → Result Destination Refusal → Type 0
+Goes archive owner new (Err e) = append archive owner new ≡ refused (number e)
+Goes archive owner new (Ok to) =
+    (append archive owner new ≡ given (append_after archive to.number to.place new)) × HasRoom archive to.number to.place new × EndsAt archive to.number to.place

@@ -1,138 +1,120 @@
 // Fresh and append (document 01, 'Calls on the archive').
 #![tactic(auto)]
 
-ghost use Rattle.std.specs.Prelude.{◌≡◌, ◌+◌, ◌*◌, ◌≤◌, ◌<◌, length};
+ghost use Rattle.std.specs.Prelude.{◌≡◌, ◌+◌, ◌*◌, ◌≤◌, ◌<◌, ◌^◌, length};
+ghost use Rattle.rules.specs.Outcome.{number_of};
+ghost use Rattle.rules.specs.Encoding.{word, put};
 ghost use Rattle.rules.specs.Filing.{append_after, new_allowed, offset_for};
 ghost use Rattle.rules.specs.Promises.{Freshens, Appends};
-ghost use Rattle.filing.specs.Destinations.{offset_outcome, HasRoom, Goes};
+ghost use Rattle.rules.specs.Results.{outcome};
+ghost use Rattle.filing.specs.Destinations.{HasRoom, Allowed, Goes};
 
-use archive::Head;
-use chains::ChainEnd;
-use record::Slot;
-use rules::refusal;
+use record::{Link, Record};
+use rules::Refusal;
 
 // ---- fresh
 
 // AARB and U = 1, every other byte zero: 1 for the length.
-pub fn fresh(archive: &mut [u8]) -> u64
-    ensures { Freshens archive.old archive.new result }
+pub fn fresh(archive: &mut [u8]) -> Result<(), Refusal>
+    ensures { Freshens archive.old archive.new (number_of (outcome result)) }
 {
     if !archive::is_whole(archive.len()) {
-        return refusal::NOT_ARCHIVE;
+        return Err(Refusal::NotArchive);
     }
     writing::clear(archive);
     writing::put_bytes(archive, 0, b"AARB\x01\x00\x00\x00");
-    0
+    Ok(())
 }
 
-// ---- append
+// ---- a record filed
 
-// The record goes to number U, the last link of its chain points to it, U grows by 1, no other byte changes. Its 32 bytes are taken over
-// first, where nothing else is written, and as a part of that length, so that the compiler moves them together.
-pub fn file(archive: &mut [u8], used: u64, last: u64, new: &[u8])
-    requires { HasRoom archive.old used last new.now }
-    ensures { archive.new ≡ append_after archive.old used last new.now }
+// Where a record goes: its number, and the place of the link to it.
+#[derive(Clone, Copy)]
+pub struct Destination {
+    pub number: u64,
+    pub place: u64,
+}
+
+// A record goes to its number, the link to it becomes `link`, U becomes `used`, no other byte changes: so a record is filed, taken back and
+// undone.
+pub fn write(archive: &mut [u8], to: Destination, new: &Record, link: u64, used: u64)
+    requires fits { (32 * to.number + 32 ≤ length archive.old) × (to.place + 4 ≤ length archive.old) }
+    requires words { (link < 2 ^ 32) × (used < 2 ^ 32) }
+    ensures { archive.new ≡ put (put (put archive.old (32 * to.number) new.now) to.place (word link)) 4 (word used) }
 {
-    let mut own = [0u8; 32];
-    writing::put_bytes(&mut own, 0, &new[0..32]);
-    writing::put_bytes(archive, 32 * used, &own);
-    writing::put_word(archive, last, used);
-    writing::put_word(archive, 4, used + 1);
+    writing::put_bytes(archive, 32 * to.number, new);
+    writing::put_word(archive, to.place, link);
+    writing::put_word(archive, 4, used);
+}
+
+// The record goes to number U, the last link of its chain points to it, U grows by 1.
+pub fn file(archive: &mut [u8], to: Destination, new: &[u8])
+    requires { HasRoom archive.old to.number to.place new.now }
+    ensures { archive.new ≡ append_after archive.old to.number to.place new.now }
+{
+    let new = new.first_chunk().unwrap();
+    write(archive, to, new, to.number, to.number + 1);
 }
 
 // A new record under its owner: 1, 14, 15, 2, 3, 16; nothing is written before every test has passed.
-pub fn append(archive: &mut [u8], owner: u64, new: &[u8]) -> u64
-    ensures { Appends archive.old owner new.now archive.new result }
+pub fn append(archive: &mut [u8], owner: u64, new: &[u8]) -> Result<(), Refusal>
+    ensures { Appends archive.old owner new.now archive.new (number_of (outcome result)) }
 {
-    match destination_for(archive, owner, new) {
-        Destination::Refused(number) => number,
-        Destination::At(free, link) => {
-            file(archive, free, link, new);
-            0
+    let to = destination_for(archive, owner, new)?;
+    file(archive, to, new);
+    Ok(())
+}
+
+// The new record, if it is one: 32 bytes of a known kind with every link zero.
+fn new_allowed(new: &[u8]) -> Option<&Record>
+    ensures { Allowed new.now result }
+{
+    let Ok(record) = <&Record>::try_from(new) else {
+        return None;
+    };
+    if !record::is_kind(record::kind_of(record)) {
+        return None;
+    }
+    for &Link(at, _) in record::links_of(record) {
+        if record::link_at(record, at) != 0 {
+            return None;
         }
     }
+    Some(record)
 }
 
-// 14: 32 bytes of a known kind with every link zero.
-fn new_allowed(new: &[u8]) -> bool
-    ensures { result ≡ new_allowed new.now }
-{
-    if new.len() != 32 {
-        return false;
-    }
-    if !record::is_kind(record::kind_of(new)) {
-        return false;
-    }
-    let mut i: u64 = 0;
-    while i < record::MOST_LINKS {
-        let Slot::Link(at, _) = record::slot_of(new, i) else {
-            break;
-        };
-        if record::link_at(new, at as usize) != 0 {
-            return false;
-        }
-        i += 1;
-    }
-    true
-}
-
-// The byte of an owner's link, or 15.
-#[derive(Clone, Copy)]
-enum Offset {
-    At(u64),
-    Refused(u64),
-}
-
-// The owner's link to its records of a kind. Its link at byte 4 leads on along its own chain.
-fn offset_for(archive: &[u8], used: u64, owner: u64, kind: u8) -> Offset
+// The byte of the owner's link to its records of a kind, or 15.
+fn offset_for(archive: &[u8], used: u64, owner: u64, kind: u8) -> Result<usize, Refusal>
     requires { 32 * used ≤ length archive.now }
-    ensures { offset_outcome result ≡ offset_for archive.now used owner kind }
+    ensures { outcome result ≡ offset_for archive.now used owner kind }
 {
     if used <= owner {
-        return Offset::Refused(refusal::BAD_OWNER);
+        return Err(Refusal::BadOwner);
     }
-    let mut i: u64 = 0;
-    while i < record::MOST_LINKS {
-        let Slot::Link(at, to) = record::slot_at(archive, owner, i) else {
-            break;
-        };
-        if at != 4 && to == kind {
-            return Offset::At(at);
+    for &Link(at, to) in record::owned_at(archive, owner) {
+        if to == kind {
+            return Ok(at);
         }
-        i += 1;
     }
-    Offset::Refused(refusal::BAD_OWNER)
-}
-
-// Where a new record goes: its number and the place of the link to it, or a refusal.
-#[derive(Clone, Copy)]
-pub enum Destination {
-    At(u64, u64),
-    Refused(u64),
+    Err(Refusal::BadOwner)
 }
 
 // Every test of append, before a byte is written: 1, 14, 15, 2, 3, 16.
-pub fn destination_for(archive: &[u8], owner: u64, new: &[u8]) -> Destination
+pub fn destination_for(archive: &[u8], owner: u64, new: &[u8]) -> Result<Destination, Refusal>
     ensures { Goes archive.now owner new.now result }
 {
-    let used = match archive::read_head(archive) {
-        Head::Used(used) => used,
-        Head::Refused(number) => return Destination::Refused(number),
+    let used = archive::read_head(archive)?;
+    let Some(record) = new_allowed(new) else {
+        return Err(Refusal::BadRecord);
     };
-    if !new_allowed(new) {
-        return Destination::Refused(refusal::BAD_RECORD);
-    }
-    let kind = record::kind_of(new);
-    let offset = match offset_for(archive, used, owner, kind) {
-        Offset::At(at) => at,
-        Offset::Refused(number) => return Destination::Refused(number),
-    };
-    let last = match chains::walk_all(archive, used, kind, owner, offset) {
-        ChainEnd::At(last, _) => last,
-        ChainEnd::Refused(number) => return Destination::Refused(number),
-    };
+    let kind = record::kind_of(record);
+    let offset = offset_for(archive, used, owner, kind)?;
+    let last = chains::walk_all(archive, used, kind, owner, offset)?;
     if (archive.len() / 32) as u64 <= used {
-        return Destination::Refused(refusal::ARCHIVE_FULL);
+        return Err(Refusal::ArchiveFull);
     }
-    Destination::At(used, last)
+    Ok(Destination {
+        number: used,
+        place: last.place,
+    })
 }

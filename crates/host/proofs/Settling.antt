@@ -1,5 +1,5 @@
 -- The C entry's promise, by what the tests before the list found.
-use mathlib.Core.Path.{◌≡◌, refl, sym, ◌∙◌, ap, subst}
+use mathlib.Core.Path.{◌≡◌, refl, sym, ◌∙◌, ap}
 use mathlib.Core.Bool.{Bool, true, false, ◌&&◌}
 use mathlib.Core.List.{List, [], ◌∷◌, ◌++◌, append-nil}
 use Prim.Native.Nat.{ℕ, ◌*◌, ◌/◌, ◌≤◌, ◌<◌, min}
@@ -9,20 +9,16 @@ use lib.Dec.{eqb, leb}
 use lib.IntN.{pos}
 use lib.ListN.{length, take, drop}
 use Rattle.rules.specs.Outcome.{Outcome, refused, given, ◌>>=◌, ◌>>◌, require, number_of}
-use Rattle.rules.specs.Refusals.{no_room, settle_refusals}
+use Rattle.rules.specs.Refusals.{no_room}
 use Rattle.rules.specs.Numbers.{sumℤ}
 use Rattle.rules.specs.Encoding.{double_word, bits, encoded}
 use Rattle.rules.specs.Booking.{signed, amounts_of}
 use Rattle.rules.specs.Settle.{Settlement, count_of, settled}
 use Rattle.rules.specs.Host.{host_settle, host_list_after, host_result_after}
 use Rattle.rules.specs.Promises.{HostSettles}
-use Rattle.rules.proofs.Refusals.{every_call_answers}
 use Rattle.prepare.specs.declared.Measure.{Measure}
-use Rattle.prepare.specs.declared.Prepared.{Prepared}
-use Rattle.prepare.specs.declared.Prepared.TheVariants as prepared
-use Rattle.prepare.specs.Answers.{Stands, Prepares}
-use Rattle.prepare.proofs.Laws.{in_sheet, sheet_length, not_ready}
-use Rattle.host.proofs.Numbers.{number_small}
+use Rattle.prepare.specs.Answers.{Stands}
+use Rattle.prepare.proofs.Laws.{in_sheet, sheet_length}
 
 module _ (archive : List ℕ) (p k : ℕ) (list result : List ℕ) where
   -- an outcome of the entry known whole
@@ -38,6 +34,9 @@ module _ (archive : List ℕ) (p k : ℕ) (list result : List ℕ) where
   not_settled : (n : ℕ) → settled archive p k ≡ refused n → host_settle archive p k (length list) (length result) ≡ refused n
   unfolding host_settle ◌>>=◌
   not_settled n e = rw e
+
+  pub unready : (n : ℕ) → settled archive p k ≡ refused n → HostSettles archive p k list list result result n
+  unready n e = by_outcome (refused n) list result n (not_settled n e) refl refl refl
 
   module _ (sheet : List ℕ) (m : Measure) (s : Stands (settled archive p k) sheet m) where
     tested : (t : Bool) → (leb (count_of s.settlement) (length list / 8) && eqb (length result) 24) ≡ t
@@ -57,9 +56,6 @@ module _ (archive : List ℕ) (p k : ℕ) (list result : List ℕ) where
         no_room_lem (rw (le-leb (count_of s.settlement) (length list / 8) (omega (arith, s.counted))) (ne_eqb (length result) 24 f))
 
     module _ (room : min (length list / 8) 2976 ≤ length sheet) (h : m.count ≤ length list / 8) where
-      pub list_long : 8 * length (take m.count sheet) ≤ length list
-      list_long = omega (arith, sheet_length s room h)
-
       -- the amounts and the three results written
       pub all_written : length result ≡ 24 → (later_list later_result : List ℕ) (total bits_of_total : ℕ)
           → later_list ≡ encoded (amounts_of m.direction m.denominator (take m.count sheet)) ++ drop (8 * length (take m.count sheet)) list
@@ -78,18 +74,3 @@ module _ (archive : List ℕ) (p k : ℕ) (list result : List ℕ) where
           results : double_word m.count ++ (double_word bits_of_total ++ double_word m.links)
               ≡ encoded (pos (count_of s.settlement) ∷ sumℤ s.settlement.amounts ∷ pos s.settlement.links ∷ [])
           results = rw (b, t, s.counted, s.amounts_are (in_sheet s room h), s.links_are, append-nil)
-
--- ---- by the answer of the tests
-
-module _ (archive : List ℕ) (p k : ℕ) (sheet : List ℕ) (x : Prepared) (h : Prepares (settled archive p k) sheet x) where
-  module _ (list result : List ℕ) (n : ℕ) (e : x ≡ prepared.Refused n) where
-    refused_so : host_settle archive p k (length list) (length result) ≡ refused n
-    refused_so = not_settled archive p k list result n (not_ready archive p k sheet x h n e)
-
-    pub refusal_small : n ≤ 255
-    refusal_small =
-        subst (λ (o : Outcome Settlement). number_of o ≤ 255) refused_so
-        (number_small settle_refusals refl (host_settle archive p k (length list) (length result)) (every_call_answers.host_settles archive p k (length list) (length result)))
-
-    pub unready : HostSettles archive p k list list result result n
-    unready = by_outcome archive p k list result (refused n) list result n refused_so refl refl refl

@@ -7,7 +7,7 @@
 ghost use Rattle.std.specs.Prelude.{◌≡◌, length};
 ghost use Rattle.output.specs.Handing.{NextPart, Hands};
 
-use std::io::Write;
+use std::io::{self, ErrorKind, Write};
 
 #[derive(Clone, Copy)]
 pub struct Output {
@@ -19,44 +19,39 @@ pub struct Failure {
     handed: u64,
 }
 
-#[derive(Clone, Copy)]
-pub enum Handed {
-    On(Output),
-    Failed(Failure),
-}
-
 pub fn start() -> Output
     ensures { result.handed ≡ 0 }
 {
     Output { handed: 0 }
 }
 
-// Writes all bytes and answers true, or stops at the first write that takes none or fails, also one that a signal interrupts. Without a
-// byte nothing is called.
-pub fn write_all<W: Write>(writer: &mut W, bytes: &[u8]) -> bool {
-    let mut done = 0;
-    while done < bytes.len() {
-        let Ok(n) = writer.write(&bytes[done..]) else {
-            return false;
-        };
+// Writes all bytes, or stops at the first write that takes none or fails. Without a byte nothing is called. A write that a signal
+// interrupts has failed here, where std's write_all writes again.
+pub fn write_all<W: Write>(writer: &mut W, bytes: &[u8]) -> io::Result<()> {
+    let mut left = bytes;
+    while !left.is_empty() {
+        let n = writer.write(left)?;
         if n == 0 {
-            return false;
+            return Err(ErrorKind::WriteZero.into());
         }
-        done += n;
+        left = &left[n..];
     }
-    true
+    Ok(())
 }
 
 // The part of an input's output that comes next.
-pub fn hand<W: Write>(writer: &mut W, input: &[u8], output: Output, part: &[u8]) -> Handed
+pub fn hand<W: Write>(
+    writer: &mut W,
+    input: &[u8],
+    output: Output,
+    part: &[u8],
+) -> Result<Output, Failure>
     requires { NextPart input.now output.handed part.now }
     ensures { Hands output.handed (length part.now) result }
 {
-    if !write_all(writer, part) {
-        return Handed::Failed(Failure {
-            handed: output.handed,
-        });
-    }
+    write_all(writer, part).map_err(|_| Failure {
+        handed: output.handed,
+    })?;
     let handed = output.handed + part.len() as u64;
-    Handed::On(Output { handed })
+    Ok(Output { handed })
 }

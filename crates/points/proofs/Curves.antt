@@ -10,7 +10,11 @@ use borrow.Author.Tests.{lt-ltb, le-ltb}
 use lib.Dec.{T, leb, ltb, ltb→lt}
 use lib.ListN.{length, get_or, set, length-set, length-map}
 use lib.Seq.{get_or-set_same}
-use Rattle.rules.specs.Outcome.{Outcome, given, ◌>>=◌, ◌>>◌, require}
+use Rattle.rules.specs.Outcome.{Outcome, refused, given, ◌>>=◌, ◌>>◌, require}
+use Rattle.rules.specs.Results.{number, outcome}
+use Rattle.rules.specs.declared.refusal.Refusal.{Refusal}
+use Rattle.std.specs.Prelude.{Result, Ok, Err}
+use Rattle.points.specs.declared.PlantCurve.{PlantCurve}
 use Rattle.rules.specs.Refusals.{out_of_range, bad_curve}
 use Rattle.rules.specs.Archive.{Entry}
 use Rattle.rules.specs.Terms.{Point, point_of}
@@ -23,7 +27,6 @@ use Rattle.rules.proofs.Curve.{below_first, above_last, from_point, between, at_
 use Rattle.curve.specs.Tables.{table_reading, Low, Tabulates}
 use Rattle.curve.specs.Lines.{InRange, Piece}
 use Rattle.curve.proofs.Fills.{either_side, set_low, next_size, next_before, next_line, next_point, next_low}
-use Rattle.points.specs.declared.CurveAnswer.TheVariants.{Read, Refused}
 use Rattle.points.specs.Steps.{Walk, walk, no_points, last_read, counted, with_next, with_point, curve_of, answer_of}
 use Rattle.points.specs.Answers.{CurveRead}
 use Rattle.points.proofs.Points.{stepped, onward, points, allowed, all_counted, all_tested, followed, all_followed, all_in_range, onward_next, all_rise}
@@ -143,8 +146,8 @@ module _ (powers : List ℕ) where
 
   end_answer_lem : (es : List Entry) → answer_of (end es).read
       ≡ cond (allowed es)
-      (cond (leb 2 (length es) && rising (points es)) (Read (curve_of (end es).read) (length es)) (Refused bad_curve))
-      (Refused out_of_range)
+      (cond (leb 2 (length es) && rising (points es)) (given (record { curve = curve_of (end es).read; links = length es })) (refused bad_curve))
+      (refused out_of_range)
   unfolding answer_of
   end_answer_lem es = go (allowed es) (all_tested (walk no_points powers) es) (end_rising es)
     where
@@ -153,8 +156,8 @@ module _ (powers : List ℕ) where
 
       go : (t : Bool) → (end es).read.allowed ≡ t → (t ≡ true → (end es).read.rising ≡ rising (points es)) → answer_of (end es).read
           ≡ cond t
-          (cond (leb 2 (length es) && rising (points es)) (Read (curve_of (end es).read) (length es)) (Refused bad_curve))
-          (Refused out_of_range)
+          (cond (leb 2 (length es) && rising (points es)) (given (record { curve = curve_of (end es).read; links = length es })) (refused bad_curve))
+          (refused out_of_range)
       go true e f = rw (e, count, f refl)
       go false e f = rw e
 
@@ -177,16 +180,27 @@ module _ (powers : List ℕ) where
             (upto_all (points (e ∷ es)) t (points es) (onward (point_of e.bytes) (walk no_points powers)) fs
             (upto_first (point_of e.bytes) (points es) powers t f size low))
 
-    pub answered : (es : List Entry) → CurveRead (points_from (given es)) (answer_of (end es).read) (end es).powers
+    pub answered : (es : List Entry) (r : Result PlantCurve Refusal) → outcome r ≡ answer_of (end es).read
+        → CurveRead (points_from (given es)) r (end es).powers
     unfolding ◌>>=◌ ◌>>◌ require
-    answered es = go (allowed es) refl (leb 2 (length es) && rising (points es)) refl
+    answered es r a = go (allowed es) refl (leb 2 (length es) && rising (points es)) refl r (a ∙ end_answer_lem es)
       where
-        go : (t : Bool) → allowed es ≡ t → (u : Bool) → (leb 2 (length es) && rising (points es)) ≡ u
-            → CurveRead (points_from (given es)) (answer_of (end es).read) (end es).powers
-        go false e u f = rw e (end_answer_lem es ∙ rw e)
-        go true e false f = rw (e, f) (end_answer_lem es ∙ rw (e, f))
-        go true e true f = rw (e, f) (record {
-          curve = curve_of (end es).read;
-          is = end_answer_lem es ∙ rw (e, f, length-map es (λ e. point_of e.bytes));
-          tabulates = end_tabulates es e f;
-        })
+        go : (t : Bool) → allowed es ≡ t → (u : Bool) → (leb 2 (length es) && rising (points es)) ≡ u → (r : Result PlantCurve Refusal)
+            → outcome r ≡ cond (allowed es)
+            (cond (leb 2 (length es) && rising (points es)) (given (record { curve = curve_of (end es).read; links = length es })) (refused bad_curve))
+            (refused out_of_range)
+            → CurveRead (points_from (given es)) r (end es).powers
+        go false e u f (Ok x) b = let b' = rw e at b in cc
+        go false e u f (Err x) b = let b' = rw e at b in let i : number x ≡ out_of_range = cc in rw (e, i) refl
+        go true e false f (Ok x) b = let b' = rw (e, f) at b in cc
+        go true e false f (Err x) b = let b' = rw (e, f) at b in let i : number x ≡ bad_curve = cc in rw (e, f, i) refl
+        go true e true f (Err x) b = let b' = rw (e, f) at b in cc
+        go true e true f (Ok x) b =
+            let b' = rw (e, f) at b in
+            let i : x ≡ record { curve = curve_of (end es).read; links = length es } = cc in
+            rw (e, f, i) (record {
+              points = points es;
+              is = refl;
+              count = sym (length-map es (λ e. point_of e.bytes));
+              tabulates = end_tabulates es e f;
+            })

@@ -6,16 +6,16 @@ use native.Mathlib.Omega.{arith}
 use lib.ListN.{length}
 use Rattle.rules.specs.Outcome.{Outcome, refused, given, ◌>>=◌}
 use Rattle.rules.specs.Archive.{link_at, record_at, point_kind, Entry, chain}
-use Rattle.rules.specs.Terms.{Point}
 use Rattle.rules.specs.Settle.{points_of}
 use Rattle.rules.proofs.Folds.{gathered_from}
 use Rattle.place.specs.declared.Place.{Place}
 use Rattle.place.specs.Places.{meant}
-use Rattle.curve.specs.declared.Curve.{Curve}
-use Rattle.curve.specs.Tables.{Low, Tabulates}
+use Rattle.curve.specs.Tables.{Low}
 use Rattle.curve.specs.Lines.{InRange}
-use Rattle.points.specs.declared.CurveAnswer.{CurveAnswer}
-use Rattle.points.specs.declared.CurveAnswer.TheVariants.{Read, Refused}
+use Rattle.std.specs.Prelude.{Result}
+use Rattle.rules.specs.Results.{outcome}
+use Rattle.rules.specs.declared.refusal.Refusal.{Refusal}
+use Rattle.points.specs.declared.PlantCurve.{PlantCurve}
 use Rattle.points.specs.Answers.{CurveRead}
 use Rattle.points.specs.Steps.{Walk, walk, no_points, last_read, with_record, answer_of}
 use Rattle.points.proofs.Points.{stepped, record_count, record_in_range}
@@ -47,43 +47,17 @@ module _ (archive : List ℕ) (place : Place) (first : ℕ) (starts : first ≡ 
   unfolding points_of
   points_are = rw starts
 
-  pub walk_answers : (lent : List ℕ) {w : Walk} {r : CurveAnswer} → length lent ≡ 1001 → Low lent
-      → gathered_from stepped (walk no_points lent) point_chain ≡ given w → r ≡ answer_of w.read
+  pub walk_answers : (lent : List ℕ) {w : Walk} (r : Result PlantCurve Refusal) → length lent ≡ 1001 → Low lent
+      → gathered_from stepped (walk no_points lent) point_chain ≡ given w → outcome r ≡ answer_of w.read
       → CurveRead (points_of archive (meant archive place)) r w.powers
-  walk_answers lent {w} size low gathers e = rw (points_are, e) (go point_chain gathers)
+  walk_answers lent {w} r size low gathers e = rw points_are (go point_chain gathers)
     where
-      go : (o : Outcome (List Entry)) → gathered_from stepped (walk no_points lent) o ≡ given w → CurveRead (points_from o) (answer_of w.read) w.powers
-      go (refused n) f = let x : ◌≡◌ {A = ℕ} 0 1 = cc in absurd (omega arith)
+      go : (o : Outcome (List Entry)) → gathered_from stepped (walk no_points lent) o ≡ given w → CurveRead (points_from o) r w.powers
+      go (refused n) f = cc
       go (given es) f =
           let i : end lent es ≡ w = cc in
-          subst (λ (x : Walk). CurveRead (points_from (given es)) (answer_of x.read) x.powers) i (answered lent size low es)
+          subst (λ (x : Walk). CurveRead (points_from (given es)) r x.powers) i (answered lent size low es r (e ∙ rw i refl))
 
-  pub chain_denies : {k n : ℕ} → point_chain ≡ refused n → k ≡ n → (left : List ℕ) → CurveRead (points_of archive (meant archive place)) (Refused k) left
+  pub chain_denies : {n : ℕ} → point_chain ≡ refused n → points_of archive (meant archive place) ≡ refused n
   unfolding ◌>>=◌
-  chain_denies f e left = rw (points_are, f, e)
-
--- ---- what an answer says to a caller
-
-module _ (powers : List ℕ) where
-  -- these points are given
-  pub record PointsGiven (o : Outcome (List Point)) (curve : Curve) (links : ℕ) : Type 0 where
-    pub points : List Point
-    pub is : o ≡ given points
-    pub count : links ≡ length points
-    pub tabulates : Tabulates curve powers points
-
-  pub answer_given : (o : Outcome (List Point)) (r : CurveAnswer) (curve : Curve) (links : ℕ) → CurveRead o r powers → r ≡ Read curve links
-      → PointsGiven o curve links
-  answer_given (refused n) r curve links h e = let x : ◌≡◌ {A = ℕ} 0 1 = cc in absurd (omega arith)
-  answer_given (given points) r curve links h e =
-      let t : Read h.curve (length points) ≡ Read curve links = sym h.is ∙ e in
-      record {
-        points = points;
-        is = refl;
-        count = cc;
-        tabulates = subst (λ (c : Curve). Tabulates c powers points) (cc) h.tabulates;
-      }
-
-  pub answer_refused : (o : Outcome (List Point)) (r : CurveAnswer) (n : ℕ) → CurveRead o r powers → r ≡ Refused n → o ≡ refused n
-  answer_refused (refused m) r n h e = cc
-  answer_refused (given points) r n h e = let x : ◌≡◌ {A = ℕ} 0 1 = cc h.is in absurd (omega arith)
+  chain_denies f = rw (points_are, f) refl

@@ -1,12 +1,12 @@
 -- The walk along the points of a curve, step by step: what it has read, and the table that it fills.
 use Rattle.std.specs.Prelude.{ℕ, ◌+◌, ◌-◌, ◌<◌, ◌≡◌, true, false, cond, ◌&&◌, List, eqb, leb, ltb, length, set}
+use Rattle.rules.specs.Outcome.{Outcome, refused, given}
 use Rattle.rules.specs.Refusals.{out_of_range, bad_curve}
 use Rattle.rules.specs.Terms.{Point, point_of, point_allowed}
 use Rattle.curve.specs.declared.Curve.{Curve}
 use Rattle.curve.specs.Lines.{InRange, point, filled}
 use Rattle.points.specs.declared.PointsRead.{PointsRead}
-use Rattle.points.specs.declared.CurveAnswer.{CurveAnswer}
-use Rattle.points.specs.declared.CurveAnswer.TheVariants.{Read, Refused}
+use Rattle.points.specs.declared.PlantCurve.{PlantCurve}
 
 -- where a walk stands
 pub record Walk : Type 0 where
@@ -31,8 +31,7 @@ pub record PointFits (powers : List ℕ) (read : PointsRead) (a : Point) : Type 
   pub in_range : InRange a
 
 -- one more record can be read
-pub record RecordFits (r powers : List ℕ) (read : PointsRead) : Type 0 where
-  pub whole : length r ≡ 32
+pub record RecordFits (powers : List ℕ) (read : PointsRead) : Type 0 where
   pub size : length powers ≡ 1001
   pub few : read.count < 65536
   pub last_in_range : InRange (last_read read)
@@ -78,9 +77,13 @@ with_record r w =
 abbrev pub curve_of : PointsRead → Curve
 curve_of p = record { first = p.first; last = p.last }
 
+-- the curve and the links followed
+abbrev pub read_of : PointsRead → PlantCurve
+read_of p = record { curve = curve_of p; links = p.count }
+
 -- after the walk: 9, then 10
-unfoldable pub answer_of : PointsRead → CurveAnswer
+unfoldable pub answer_of : PointsRead → Outcome PlantCurve
 answer_of p =
     cond p.allowed
-    (cond (leb 2 p.count && p.rising) (Read (curve_of p) p.count) (Refused bad_curve))
-    (Refused out_of_range)
+    (cond (leb 2 p.count && p.rising) (given (read_of p)) (refused bad_curve))
+    (refused out_of_range)

@@ -1,12 +1,12 @@
 -- What the answer of the tests stands for.
-use Rattle.std.specs.Prelude.{ℕ, ◌≤◌, ◌<◌, ◌/◌, ◌^◌, ◌≡◌, List, length, take}
+use Rattle.std.specs.Prelude.{ℕ, ◌≤◌, ◌<◌, ◌/◌, ◌^◌, ◌≡◌, List, length, take, Result, Ok, Err}
 use Rattle.rules.specs.Outcome.{Outcome, refused, given, ◌>>=◌}
+use Rattle.rules.specs.Results.{number}
+use Rattle.rules.specs.declared.refusal.Refusal.{Refusal}
 use Rattle.rules.specs.Numbers.{sum}
 use Rattle.rules.specs.Booking.{amounts_of}
 use Rattle.rules.specs.Settle.{Place, basis_of, quarters_of, settlement_of, Settlement, count_of}
 use Rattle.prepare.specs.declared.Measure.{Measure}
-use Rattle.prepare.specs.declared.Prepared.{Prepared}
-use Rattle.prepare.specs.declared.Prepared.TheVariants as prepared
 
 -- the settlement that a measure and its sheet stand for, with bounds within which it can be booked
 pub record Stands (o : Outcome Settlement) (sheet : List ℕ) (m : Measure) : Type 0 where
@@ -22,9 +22,9 @@ pub record Stands (o : Outcome Settlement) (sheet : List ℕ) (m : Measure) : Ty
   pub fits : m.count ≤ length sheet → sum (take m.count sheet) / m.denominator < 2 ^ 63
 
 -- the answer for a settlement that is given or refused
-unfoldable pub Prepares : Outcome Settlement → List ℕ → Prepared → Type 0
-Prepares o sheet (prepared.Ready m) = Stands o sheet m
-Prepares o sheet (prepared.Refused n) = o ≡ refused n
+abbrev pub Prepares : Outcome Settlement → List ℕ → Result Measure Refusal → Type 0
+Prepares o sheet (Ok m) = Stands o sheet m
+Prepares o sheet (Err e) = o ≡ refused (number e)
 
 -- what is settled once a measure's place is known
 abbrev pub settled_at : List ℕ → Place → Outcome Settlement

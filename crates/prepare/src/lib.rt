@@ -4,13 +4,12 @@
 ghost use Rattle.std.specs.Prelude.{◌≡◌, true, false};
 ghost use Rattle.rules.specs.Settle.{basis_of, settled};
 ghost use Rattle.place.specs.Places.{meant, Lies};
-ghost use Rattle.basis.specs.Bases.{needs_curve, Finds};
+ghost use Rattle.basis.specs.Bases.{needs_curve, Found};
 ghost use Rattle.prepare.specs.Answers.{Prepares, settled_at};
 
-use basis::Based;
-use place::{Place, Placed};
-use quarters::Walked;
-use rules::Direction;
+use basis::Basis;
+use place::Place;
+use rules::{Direction, Refusal};
 
 // A measure whose tests have all passed: its exact magnitudes are the first `count` numbers of a sheet, over `denominator`.
 #[derive(Clone, Copy)]
@@ -21,83 +20,54 @@ pub struct Measure {
     pub links: u64,
 }
 
-#[derive(Clone, Copy)]
-pub enum Prepared {
-    Ready(Measure),
-    Refused(u64),
-}
-
 // The quarters, on the basis that was found, with the powers of its curve beside it.
 fn on_basis(
     archive: &[u8],
     place: Place,
-    found: Based,
+    basis: Basis,
     powers: &[u32],
     sheet: &mut [u64],
-) -> Prepared
+) -> Result<Measure, Refusal>
     requires lies { Lies archive.now place }
-    requires finds { Finds (basis_of archive.now (meant archive.now place)) powers.now found }
+    requires finds { Found (basis_of archive.now (meant archive.now place)) powers.now basis }
     ensures { Prepares (settled_at archive.now (meant archive.now place)) sheet.new result }
 {
-    match found {
-        Based::Refused(n) => Prepared::Refused(n),
-        Based::On(basis) => {
-            let reference = basis.reference;
-            let d = reference::denominator(reference);
-            match quarters::walk(archive, place, reference, d, powers, sheet) {
-                Walked::Refused(n) => Prepared::Refused(n),
-                Walked::Count(count) => {
-                    let terms = place.terms;
-                    let direction = terms.direction;
-                    let measure = Measure {
-                        direction,
-                        denominator: 4 * d,
-                        count,
-                        links: place.links + basis.links + count,
-                    };
-                    Prepared::Ready(measure)
-                }
-            }
-        }
-    }
+    let d = reference::denominator(basis.reference);
+    let count = quarters::walk(archive, place, basis.reference, d, powers, sheet)?;
+    Ok(Measure {
+        direction: place.terms.direction,
+        denominator: 4 * d,
+        count,
+        links: place.links + basis.links + count,
+    })
 }
 
-fn without_curve(archive: &[u8], place: Place, sheet: &mut [u64]) -> Prepared
+// With so many places for the powers of a curve: a table where one is needed, none elsewhere.
+fn with_powers<const N: usize>(
+    archive: &[u8],
+    place: Place,
+    sheet: &mut [u64],
+) -> Result<Measure, Refusal>
     requires lies { Lies archive.now place }
-    requires variant_value { needs_curve place.terms.technology place.terms.variant ≡ false }
+    requires table { needs_curve place.terms.technology place.terms.variant ≡ true → N ≡ 1001 }
+    requires none { needs_curve place.terms.technology place.terms.variant ≡ false → N ≡ 0 }
     ensures { Prepares (settled_at archive.now (meant archive.now place)) sheet.new result }
 {
-    let mut no_powers = [0u32; 0];
-    let found = basis::find(archive, place, &mut no_powers);
-    on_basis(archive, place, found, &no_powers, sheet)
-}
-
-// With a table for the powers of the curve.
-fn with_curve(archive: &[u8], place: Place, sheet: &mut [u64]) -> Prepared
-    requires lies { Lies archive.now place }
-    requires variant_value { needs_curve place.terms.technology place.terms.variant ≡ true }
-    ensures { Prepares (settled_at archive.now (meant archive.now place)) sheet.new result }
-{
-    let mut powers = [0u32; 1001];
-    let found = basis::find(archive, place, &mut powers);
-    on_basis(archive, place, found, &powers, sheet)
+    let mut powers = [0u32; N];
+    let basis = basis::find(archive, place, &mut powers)?;
+    on_basis(archive, place, basis, &powers, sheet)
 }
 
 // The exact magnitudes into the sheet, as far as it has places: 1 to 12, and 18. The archive is lent on as a part of itself, the whole:
 // so the compiler keeps its address in a register.
-pub fn prepare(archive: &[u8], p: u64, k: u64, sheet: &mut [u64]) -> Prepared
+pub fn prepare(archive: &[u8], p: u64, k: u64, sheet: &mut [u64]) -> Result<Measure, Refusal>
     ensures { Prepares (settled archive.now p k) sheet.new result }
 {
-    match place::find(archive, p, k) {
-        Placed::Refused(n) => Prepared::Refused(n),
-        Placed::At(place) => {
-            let size = archive.len();
-            let whole = &archive[0..size];
-            let terms = place.terms;
-            if !basis::needs_curve(terms) {
-                return without_curve(whole, place, sheet);
-            }
-            with_curve(whole, place, sheet)
-        }
+    let place = place::find(archive, p, k)?;
+    let size = archive.len();
+    let whole = &archive[0..size];
+    if !basis::needs_curve(place.terms) {
+        return with_powers::<0>(whole, place, sheet);
     }
+    with_powers::<1001>(whole, place, sheet)
 }

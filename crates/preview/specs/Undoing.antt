@@ -1,10 +1,11 @@
 -- An append for now: what is kept of the archive, and that the archive comes back from it.
-use Rattle.std.specs.Prelude.{ℕ, ◌+◌, ◌*◌, ◌≤◌, ◌<◌, ◌≡◌, List, length}
+use Rattle.std.specs.Prelude.{ℕ, ◌+◌, ◌*◌, ◌≤◌, ◌<◌, ◌≡◌, List, length, Result, Ok, Err}
 use Rattle.rules.specs.Outcome.{refused, given}
 use Rattle.rules.specs.Filing.{append}
 use Rattle.rules.specs.Preview.{undone}
-use Rattle.filing.specs.declared.Destination.{Destination}
-use Rattle.filing.specs.declared.Destination.TheVariants as destination
+use Rattle.rules.specs.Results.{number}
+use Rattle.rules.specs.declared.refusal.Refusal.{Refusal}
+use Rattle.preview.specs.declared.Appended.{Appended}
 
 -- a record of this number, the link to it and U can be written
 pub record CanUndo (archive : List ℕ) (used place : ℕ) (old : List ℕ) : Type 0 where
@@ -14,7 +15,9 @@ pub record CanUndo (archive : List ℕ) (used place : ℕ) (old : List ℕ) : Ty
   pub few : used < 65535
 
 -- append is refused, and nothing changes; or the record is appended, and what was kept of the archive gives it back
-abbrev pub AppendsForNow : List ℕ → ℕ → List ℕ → List ℕ → List ℕ → Destination → Type 0
-AppendsForNow archive owner new later old (destination.Refused n) = (append archive owner new ≡ refused n) × (later ≡ archive)
-AppendsForNow archive owner new later old (destination.At used place) =
-    (append archive owner new ≡ given later) × CanUndo later used place old × (undone later used place old ≡ archive)
+abbrev pub AppendsForNow : List ℕ → ℕ → List ℕ → List ℕ → Result Appended Refusal → Type 0
+AppendsForNow archive owner new later (Err e) = (append archive owner new ≡ refused (number e)) × (later ≡ archive)
+AppendsForNow archive owner new later (Ok a) =
+    (append archive owner new ≡ given later)
+    × CanUndo later a.destination.number a.destination.place a.before
+    × (undone later a.destination.number a.destination.place a.before ≡ archive)

@@ -1,43 +1,48 @@
-// Preview (document 02, 6): what settle would give with one more record. The archive is lent for writing: the record is appended, the measure
-// settled, and every byte put back, whatever settle answers.
+// Preview (document 02, 6): what settle would give with one more record. The archive is lent for writing: the record is appended, the
+// measure settled, and every byte put back, whatever settle answers.
 #![tactic(auto)]
 
-ghost use Rattle.std.specs.Prelude.{◌≡◌, length};
+ghost use Rattle.std.specs.Prelude.{◌≡◌};
 ghost use Rattle.rules.specs.Preview.{undone};
 ghost use Rattle.rules.specs.Promises.{Previews};
 ghost use Rattle.settle.specs.Answers.{answered};
 ghost use Rattle.preview.specs.Undoing.{CanUndo, AppendsForNow};
 
 use filing::Destination;
+use record::Record;
+use rules::Refusal;
 use settle::Settled;
 
 // ---- a record appended for now
 
-// Append, and what record U was before it; gives the new record's number and the place of the link to it.
-pub fn append_for_now(archive: &mut [u8], owner: u64, new: &[u8], old: &mut [u8]) -> Destination
-    requires { length old.old ≡ 32 }
-    ensures { AppendsForNow archive.old owner new.now archive.new old.new result }
+// Where a record was appended, and what the record of that number was before.
+#[derive(Clone, Copy)]
+pub struct Appended {
+    pub destination: Destination,
+    pub before: Record,
+}
+
+// Append, and keep what undoes it.
+pub fn append_for_now(archive: &mut [u8], owner: u64, new: &[u8]) -> Result<Appended, Refusal>
+    ensures { AppendsForNow archive.old owner new.now archive.new result }
 {
-    match filing::destination_for(archive, owner, new) {
-        Destination::Refused(number) => Destination::Refused(number),
-        Destination::At(used, place) => {
-            let start = 32 * used as usize;
-            let end = start + 32;
-            writing::put_bytes(old, 0, &archive[start..end]);
-            filing::file(archive, used, place, new);
-            Destination::At(used, place)
-        }
-    }
+    let destination = filing::destination_for(archive, owner, new)?;
+    let before = *record::record_at(archive, destination.number);
+    filing::file(archive, destination, new);
+    Ok(Appended {
+        destination,
+        before,
+    })
 }
 
 // The append undone, which isn't taking back: record U gets its old bytes, the link becomes 0 again, and U what it was.
-pub fn undo(archive: &mut [u8], used: u64, place: u64, old: &[u8])
-    requires { CanUndo archive.old used place old.now }
-    ensures { archive.new ≡ undone archive.old used place old.now }
+pub fn undo(archive: &mut [u8], appended: Appended)
+    requires { CanUndo archive.old appended.destination.number appended.destination.place appended.before }
+    ensures { archive.new
+        ≡ undone archive.old appended.destination.number appended.destination.place appended.before }
 {
-    writing::put_bytes(archive, 32 * used, old);
-    writing::put_word(archive, place, 0);
-    writing::put_word(archive, 4, used);
+    let to = appended.destination;
+    filing::write(archive, to, &appended.before, 0, to.number);
 }
 
 // ---- preview
@@ -50,16 +55,11 @@ pub fn preview(
     p: u64,
     k: u64,
     list: &mut [i64],
-) -> Settled
+) -> Result<Settled, Refusal>
     ensures { Previews archive.old owner new.now p k list.old list.new archive.new (answered result) }
 {
-    let mut old = [0u8; 32];
-    match append_for_now(archive, owner, new, &mut old) {
-        Destination::Refused(number) => Settled::Refused(number),
-        Destination::At(used, place) => {
-            let settled = settle::settle(archive, p, k, list);
-            undo(archive, used, place, &old);
-            settled
-        }
-    }
+    let appended = append_for_now(archive, owner, new)?;
+    let settled = settle::settle(archive, p, k, list);
+    undo(archive, appended);
+    settled
 }

@@ -11,9 +11,10 @@ use Rattle.rules.specs.Refusals.{settle_refusals}
 use Rattle.rules.specs.Settle.{Answer, answer_of, Settlement, count_of, total_of, settled, settle, list_after}
 use Rattle.rules.specs.Promises.{Settles}
 use Rattle.rules.proofs.Refusals.{given_by_number, number_is, every_call_answers}
-use Rattle.units.specs.declared.WattHour.{WattHour}
+use Rattle.std.specs.Prelude.{Ok, Err}
+use Rattle.rules.specs.Results.{number}
+use Rattle.rules.specs.declared.refusal.Refusal.{Refusal}
 use Rattle.settle.specs.declared.Settled.{Settled}
-use Rattle.settle.specs.declared.Settled.TheVariants as answer
 use Rattle.settle.specs.Answers.{answered}
 use Rattle.report.specs.declared.Cursor.{Cursor}
 use Rattle.report.specs.Cursors.{finished, Advances}
@@ -32,24 +33,24 @@ pub record WasGiven (archive : List ℕ) (p k : ℕ) (list list' : List ℤ) (co
   pub links_are : links ≡ settlement.links
   pub leaves : list' ≡ settlement.amounts ++ drop (count_of settlement) list
 
-module _ (archive : List ℕ) (p k : ℕ) (list list' : List ℤ) (x : Settled) (h : Settles archive p k list list' (answered x)) (size : length list ≡ 2976) where
+module _ (archive : List ℕ) (p k : ℕ) (list list' : List ℤ) (size : length list ≡ 2976) where
   same : settle archive p k (length list) ≡ settled archive p k
   same = settle_long archive p k (length list) (omega arith)
 
-  pub was_refused : (n : ℕ) → x ≡ answer.Refused n → WasRefused archive p k list list' n
-  was_refused n e = go (settled archive p k) refl (ap answered (sym e) ∙ h.answers ∙ ap answer_of same) (h.leaves ∙ ap (λ (o : Outcome Settlement). list_after o list) same)
+  pub was_refused : (e : Refusal) → Settles archive p k list list' (answered (Err e)) → WasRefused archive p k list list' (number e)
+  was_refused e h = go (settled archive p k) refl (h.answers ∙ ap answer_of same) (h.leaves ∙ ap (λ (o : Outcome Settlement). list_after o list) same)
     where
-      go : (o : Outcome Settlement) → settled archive p k ≡ o → answered (answer.Refused n) ≡ answer_of o → list' ≡ list_after o list → WasRefused archive p k list list' n
+      go : (o : Outcome Settlement) → settled archive p k ≡ o → answered (Err e) ≡ answer_of o → list' ≡ list_after o list → WasRefused archive p k list list' (number e)
       go (refused m) f a l = record { is = f ∙ ap refused (sym (ap (λ (y : Answer). y.number) a)); kept = l }
       go (given s) f a l =
           let c : 0 ≡ count_of s = ap (λ (y : Answer). y.count) a in
           absurd (omega (arith, ((settled_counted archive p k).of s f).some))
 
-  pub was_given : (count : ℕ) (total : WattHour) (links : ℕ) → x ≡ answer.Given count total links → WasGiven archive p k list list' count total.0 links
-  was_given count total links e =
+  pub was_given : (x : Settled) → Settles archive p k list list' (answered (Ok x)) → WasGiven archive p k list list' x.count x.total.0 x.links
+  was_given x h =
       let g = given_by_number settle_refusals refl (settle archive p k (length list)) (every_call_answers.settles archive p k (length list))
-      (sym (number_is (settle archive p k (length list)) h.answers) ∙ ap (λ (y : Settled). (answered y).number) e) in
-      let a : answered (answer.Given count total links) ≡ answer_of (given g.0) = ap answered (sym e) ∙ h.answers ∙ ap answer_of g.1 in record {
+      (sym (number_is (settle archive p k (length list)) h.answers)) in
+      let a : answered (Ok x) ≡ answer_of (given g.0) = h.answers ∙ ap answer_of g.1 in record {
         settlement = g.0;
         is = sym same ∙ g.1;
         count_is = ap (λ (y : Answer). y.count) a;

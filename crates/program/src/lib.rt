@@ -3,111 +3,114 @@
 #![tactic(auto)]
 
 ghost use Rattle.std.specs.Prelude.{◌≤◌, length};
-ghost use Rattle.report.specs.Cursors.{Fits, Advances, Fills};
 ghost use Rattle.output.specs.Handing.{HandsAll};
-ghost use Rattle.program.specs.Due.{LineDue, MeasureDue, Room, RestDue, ExitStatus};
+ghost use Rattle.program.specs.Due.{FitsIn, LineDue, MeasureDue, PutsLine, FillsLines, RestDue, ExitStatus};
 
-use output::{Handed, Output};
+use output::{Failure, Output};
 use report::Cursor;
-use settle::Settled;
 use std::io::{Read, Write};
+use text::Text;
 
-// The measure at the cursor's places: its first line, with its amounts in the list, or its refusal.
-fn put_next_measure(archive: &[u8], cursor: Cursor, list: &mut [i64], out: &mut [u8]) -> Cursor
-    requires { MeasureDue archive.now cursor list.old out.old }
-    ensures { Advances archive.now cursor list.old out.old
-        result list.new out.new }
-{
-    match settle::settle(archive, cursor.p, cursor.k, list) {
-        Settled::Given(count, total, links) => {
-            let end = text::put_measure(out, cursor.end, cursor.p, cursor.k, count, total.0, links);
-            report::after_measure(cursor, count, end)
+// The report of an archive: where it stands, the amounts of the measure last settled, and its lines up to the cursor's end.
+#[derive(Drop)]
+struct Report {
+    cursor: Cursor,
+    list: [i64; 2976],
+    out: [u8; 65536],
+}
+
+impl Report {
+    // The measure at the cursor's places: its first line, with its amounts in the list, or its refusal.
+    fn put_next_measure(&mut self, archive: &[u8])
+        requires { MeasureDue archive.now self.old }
+        ensures { PutsLine archive.now self.old self.new }
+    {
+        let Cursor { p, k, end, .. } = self.cursor;
+        match settle::settle(archive, p, k, &mut self.list) {
+            Ok(settled) => {
+                let total = settled.total.0;
+                let mut text = Text::at(&mut self.out, end);
+                text.measure(p, k, settled.count, total, settled.links);
+                self.cursor = self.cursor.after_measure(settled.count, text.end);
+            }
+            Err(refusal) => {
+                let number = refusal.number() as u64;
+                let end = report::put_refused(&mut self.out, end, p, k, number);
+                self.cursor = self.cursor.after_refusal(number, end);
+            }
         }
-        Settled::Refused(number) => {
-            let end = report::put_refused(out, cursor.end, cursor.p, cursor.k, number);
-            report::after_refusal(cursor, number, end)
+    }
+
+    // One line more, or none where a plant has no further measure or the archive no further plant.
+    fn put_next(&mut self, archive: &[u8])
+        requires { LineDue archive.now self.old }
+        ensures { PutsLine archive.now self.old self.new }
+    {
+        if self.cursor.place < self.cursor.count {
+            let cursor = self.cursor;
+            self.cursor = cursor.put_next_quarter(&self.list, &mut self.out);
+        } else {
+            self.put_next_measure(archive);
         }
     }
-}
 
-// One line more, or none where a plant has no further measure or the archive no further plant.
-fn put_next(archive: &[u8], cursor: Cursor, list: &mut [i64], out: &mut [u8]) -> Cursor
-    requires { LineDue archive.now cursor list.old out.old }
-    ensures { Advances archive.now cursor list.old out.old
-        result list.new out.new }
-{
-    if cursor.place < cursor.count {
-        return report::put_next_quarter(cursor, list, out);
-    }
-    put_next_measure(archive, cursor, list, out)
-}
-
-// As many whole lines as have room.
-fn fill(archive: &[u8], cursor: Cursor, list: &mut [i64], out: &mut [u8]) -> Cursor
-    requires { Fits archive.now cursor list.old × (108 ≤ length out.old) }
-    ensures { Fills archive.now cursor list.old result list.new out.new }
-{
-    let mut next = report::from_start(cursor);
-    while !report::is_finished(next) {
-        if out.len() < next.end + 108 {
-            return next;
+    // As many whole lines as have room.
+    fn fill(&mut self, archive: &[u8])
+        requires { FitsIn archive.now self.old }
+        ensures { FillsLines archive.now self.old self.new }
+    {
+        self.cursor = self.cursor.from_start();
+        while !self.cursor.is_finished() && self.cursor.end + 108 <= self.out.len() {
+            self.put_next(archive);
         }
-        next = put_next(archive, next, list, out);
     }
-    next
+
+    // Every line that is left, part by part, until none is or a write fails.
+    fn print<W: Write>(
+        &mut self,
+        writer: &mut W,
+        archive: &[u8],
+        start: Output,
+    ) -> Result<Output, Failure>
+        requires { RestDue archive.now self.old start.handed }
+        ensures { HandsAll archive.now result }
+    {
+        let mut handed = start;
+        while !self.cursor.is_finished() {
+            self.fill(archive);
+            let end = self.cursor.end;
+            handed = output::hand(writer, archive, handed, &self.out[..end])?;
+        }
+        Ok(handed)
+    }
 }
 
-// Every line that is left, part by part, until none is or a write fails.
-fn print<W: Write>(
-    writer: &mut W,
-    archive: &[u8],
-    first: Cursor,
-    start: Output,
-    list: &mut [i64],
-    out: &mut [u8],
-) -> Handed
-    requires { RestDue archive.now first start.handed list.old out.old }
-    ensures { HandsAll archive.now result }
-{
-    let mut cursor = first;
-    let mut handed = start;
-    while !report::is_finished(cursor) {
-        cursor = fill(archive, cursor, list, out);
-        let answer = output::hand(writer, archive, handed, &out[..cursor.end]);
-        let Handed::On(next) = answer else {
-            return answer;
-        };
-        handed = next;
-    }
-    Handed::On(handed)
-}
-
-// The whole output of an input: its first lines, then the others.
-fn give_output<W: Write>(writer: &mut W, input: &[u8], list: &mut [i64], out: &mut [u8]) -> Handed
-    requires { Room list.old out.old }
+// The whole output of an input: the line of a refused head, or all others.
+fn give_output<W: Write>(writer: &mut W, input: &[u8]) -> Result<Output, Failure>
     ensures { HandsAll input.now result }
 {
-    let first = report::begin(input, out);
-    let answer = output::hand(writer, input, output::start(), &out[..first.end]);
-    let Handed::On(begun) = answer else {
-        return answer;
+    let mut line = [0u8; 108];
+    let cursor = report::begin(input, &mut line);
+    let begun = output::hand(writer, input, output::start(), &line[..cursor.end])?;
+    let mut report = Report {
+        cursor,
+        list: [0; 2976],
+        out: [0; 65536],
     };
-    print(writer, input, first, begun, list, out)
+    report.print(writer, input, begun)
 }
 
-// Reads until the buffer is full, the input ends or a read fails, also one that a signal interrupts: how many bytes it has now.
+// Reads until the buffer is full, the input ends or a read fails, also one that a signal interrupts: how many bytes it has now. std's
+// read_exact reads again after such a one and tells no count, and its read_to_end needs a heap.
 fn read_full<R: Read>(reader: &mut R, buffer: &mut [u8]) -> usize
     ensures { result ≤ length buffer.old }
 {
     let mut done = 0;
     while done < buffer.len() {
-        let Ok(n) = reader.read(&mut buffer[done..]) else {
-            return done;
-        };
-        if n == 0 {
-            return done;
+        match reader.read(&mut buffer[done..]) {
+            Ok(0) | Err(_) => break,
+            Ok(n) => done += n,
         }
-        done += n;
     }
     done
 }
@@ -123,12 +126,12 @@ fn read_status<R: Read, E: Write>(reader: &mut R, errors: &mut E, n: usize) -> u
     if let Ok(0) = reader.read(&mut more) {
         return 0;
     }
-    output::write_all(errors, b"sandegmur: the input could not be read\n");
+    let _ = output::write_all(errors, b"sandegmur: the input could not be read\n");
     1
 }
 
-// The input up to one byte more than an archive may have, and its output. The answer is the program's exit status: 0, or 1 where a read
-// or a write failed, which standard error is told.
+// The input up to one byte more than an archive may have, and its output. The answer is the program's exit status, a number as the system
+// takes it: 0, or 1 where a read or a write failed, which standard error is told.
 pub fn sandegmur_run<R: Read, W: Write, E: Write>(
     reader: &mut R,
     writer: &mut W,
@@ -137,13 +140,11 @@ pub fn sandegmur_run<R: Read, W: Write, E: Write>(
     ensures { ExitStatus result }
 {
     let mut input = [0u8; 65537];
-    let mut list = [0i64; 2976];
-    let mut out = [0u8; 65536];
     let n = read_full(reader, &mut input);
     let status = read_status(reader, errors, n);
-    let Handed::On(_) = give_output(writer, &input[..n], &mut list, &mut out) else {
-        output::write_all(errors, b"sandegmur: the output could not be written\n");
+    if give_output(writer, &input[..n]).is_err() {
+        let _ = output::write_all(errors, b"sandegmur: the output could not be written\n");
         return 1;
-    };
+    }
     status
 }

@@ -6,16 +6,14 @@ use Prim.Native.Nat.{ℕ, suc, ◌+◌, ◌*◌, ◌-◌, ◌/◌, ◌^◌, ◌�
 use native.Mathlib.Numerals.{add-one}
 use native.Mathlib.Nat.{mul-le-mul_right, div-le_of_le-mul}
 use native.Mathlib.Omega.{arith}
-use mir.Syntax.{w64}
-use mir.Val.{Fits}
 use borrow.Author.Tests.{leb-true, le-leb, lt-leb}
 use lib.Dec.{eqb, leb}
 use lib.ListN.{length, take, set, length-set}
-use lib.Seq.{take-suc-set, append_snoc, set_out}
+use lib.Seq.{take-suc-set, append_snoc}
 use Rattle.rules.specs.Outcome.{Outcome, refused, given, ◌>>=◌, ◌>>◌, require}
 use Rattle.rules.specs.Refusals.{bad_count, out_of_range, not_in_calendar}
 use Rattle.rules.specs.Numbers.{all, map_from}
-use Rattle.rules.specs.Archive.{record_at, next_of, Entry, follow, quarter_kind, first_quarter}
+use Rattle.rules.specs.Archive.{record_at, Entry, quarter_kind, first_quarter}
 use Rattle.rules.specs.Terms.{Terms, Quarter, quarter_of}
 use Rattle.rules.specs.Reference as book
 use Rattle.rules.specs.Reference.{denominator, exact_of}
@@ -28,24 +26,21 @@ use Rattle.rules.proofs.Inversion.{same_given}
 use Rattle.rules.proofs.Lists.{map_from_length, all_passed, all_weaker, sum_low}
 use Rattle.rules.proofs.Sound.{both}
 use Rattle.rules.proofs.Folds.{gathered, gathered_from}
-use Rattle.chains.specs.declared.Link.{Link}
-use Rattle.chains.specs.Answers.{link_answer, refusal_of}
-use Rattle.chains.proofs.Laws.{Met, NoAt}
-use Rattle.chains.proofs.Walking.{Walking, walk_starts, walk_turns, walk_ends, walk_refused}
+use Rattle.chains.specs.declared.Chain.{Chain}
+use Rattle.chains.specs.Steps.{Starts, Turns, Refuses}
+use Rattle.chains.proofs.Walking.{Along, Walking, along_starts, along_meets, along_turns, walk_starts, walk_turns, walk_ends, walk_refused}
 use Rattle.terms.specs.Meanings.{meaning}
 use Rattle.place.specs.declared.Place.{Place}
 use Rattle.place.specs.Places.{meant}
 use Rattle.units.specs.declared.Watt.{Watt}
 use Rattle.reference.specs.declared.Reference.{Reference}
 use Rattle.reference.specs.declared.Reference.TheVariants.{ByFactor}
-use Rattle.reference.specs.References.{Means, Bounded, Divided}
-use Rattle.reference.proofs.References.{means_bounded}
-use Rattle.exact.specs.declared.Exact.{Exact}
-use Rattle.exact.specs.declared.Exact.TheVariants as exact
+use Rattle.reference.specs.References.{Divided}
+use Rattle.std.specs.Prelude.{Option, Result, Err}
 use Rattle.exact.specs.Exacts.{exact_answer, quarter_answer}
-use Rattle.quarters.specs.declared.Walked.{Walked}
-use Rattle.quarters.specs.declared.Walked.TheVariants as walked
-use Rattle.quarters.specs.Walks.{is_in_range, entered, answer_at_end, WalkedBy, Walks}
+use Rattle.rules.specs.Results.{number, outcome}
+use Rattle.rules.specs.declared.refusal.Refusal.{Refusal}
+use Rattle.quarters.specs.Walks.{is_in_range, entered, answer_at_end, WalkedBy}
 
 -- the quarters met so far, whether every needed field of them is in range, and the sheet
 pub record Gathered : Type 0 where
@@ -60,7 +55,7 @@ module _ (terms : Terms) (ref : book.Reference) where
   abbrev is_readable : Quarter → Bool
   is_readable = readable terms ref
 
-  abbrev pub exact_at : ℕ → List ℕ → Exact
+  abbrev pub exact_at : ℕ → List ℕ → Option ℕ
   exact_at index r = quarter_answer terms ref (quarter_of terms index r)
 
   abbrev pub stepped : Gathered → Entry → Gathered
@@ -109,12 +104,12 @@ module _ (terms : Terms) (ref : book.Reference) where
   -- ---- at the chain's end
 
   -- a walk that started before its first quarter has met all of them
-  record Ended (o : Outcome (List Entry)) (g : Gathered) : Type 0 where
-    entries : List Entry
-    are : o ≡ given entries
-    count : g.count ≡ length entries
-    fine : g.fine ≡ all is_readable (read_from 0 entries)
-    sheet : g.fine ≡ true → length entries ≤ length g.sheet → take (length entries) g.sheet ≡ map (exact_of terms ref) (read_from 0 entries)
+  pub record Ended (o : Outcome (List Entry)) (g : Gathered) : Type 0 where
+    pub entries : List Entry
+    pub are : o ≡ given entries
+    pub count : g.count ≡ length entries
+    pub fine : g.fine ≡ all is_readable (read_from 0 entries)
+    pub sheet : g.fine ≡ true → length entries ≤ length g.sheet → take (length entries) g.sheet ≡ map (exact_of terms ref) (read_from 0 entries)
 
   ended : (o : Outcome (List Entry)) (sheet : List ℕ) (g : Gathered) → length g.sheet ≡ length sheet → gathered_from stepped (state 0 true sheet) o ≡ given g → Ended o g
   ended (refused n) sheet g h e = let z : ◌≡◌ {A = ℕ} 0 1 = cc in absurd (omega arith)
@@ -145,30 +140,32 @@ total_fits total count d c h =
 -- ---- what settle's rule says of the quarters
 
 module _ (archive : List ℕ) (place : settle.Place) (basis : Basis) where
-  walked_refused : (sheet : List ℕ) (n : ℕ) → quarters_of archive place basis ≡ refused n → WalkedBy archive place basis sheet (walked.Refused n)
-  walked_refused sheet n e = record {
-    answers = rw e;
-    writes = λ quarters i k. let z : ◌≡◌ {A = ℕ} 0 1 = cc in absurd (omega arith);
-    fits = λ quarters i. let z : ◌≡◌ {A = ℕ} 0 1 = cc in absurd (omega arith);
+  walked_refused : (sheet : List ℕ) (r : Result ℕ Refusal) (n : ℕ) → quarters_of archive place basis ≡ refused n → outcome r ≡ refused n
+      → WalkedBy archive place basis sheet r
+  unfolding ◌>>=◌
+  walked_refused sheet r n e a = record {
+    answers = a ∙ rw e refl;
+    writes = λ quarters i k. cc;
+    fits = λ quarters i. cc;
   }
 
-  walked_chain : (sheet : List ℕ) (n : ℕ) → quarter_chain archive place ≡ refused n → WalkedBy archive place basis sheet (walked.Refused n)
+  pub walked_chain : (sheet : List ℕ) (e : Refusal) → quarter_chain archive place ≡ refused (number e) → WalkedBy archive place basis sheet (Err e)
   unfolding quarters_of ◌>>=◌
-  walked_chain sheet n e = walked_refused sheet n (rw e)
+  walked_chain sheet e c = walked_refused sheet (Err e) (number e) (rw c) refl
 
-  module _ (g : Gathered) (h : Ended place.terms basis.reference (quarter_chain archive place) g) where
-    walked_uncounted : (leb 1 g.count && leb g.count 2976) ≡ false → WalkedBy archive place basis g.sheet (walked.Refused bad_count)
+  module _ (g : Gathered) (h : Ended place.terms basis.reference (quarter_chain archive place) g) (r : Result ℕ Refusal) where
+    walked_uncounted : (leb 1 g.count && leb g.count 2976) ≡ false → outcome r ≡ refused bad_count → WalkedBy archive place basis g.sheet r
     unfolding quarters_of ◌>>=◌ ◌>>◌ require
-    walked_uncounted k = walked_refused g.sheet bad_count (rw (h.are, ← h.count, k))
+    walked_uncounted k a = walked_refused g.sheet r bad_count (rw (h.are, ← h.count, k)) a
 
     module _ (counted : (leb 1 g.count && leb g.count 2976) ≡ true) where
-      walked_unreadable : g.fine ≡ false → WalkedBy archive place basis g.sheet (walked.Refused out_of_range)
+      walked_unreadable : g.fine ≡ false → outcome r ≡ refused out_of_range → WalkedBy archive place basis g.sheet r
       unfolding quarters_of ◌>>=◌ ◌>>◌ require
-      walked_unreadable f = walked_refused g.sheet out_of_range (rw (h.are, ← h.count, counted, ← h.fine, f))
+      walked_unreadable f a = walked_refused g.sheet r out_of_range (rw (h.are, ← h.count, counted, ← h.fine, f)) a
 
-      walked_late : g.fine ≡ true → dates_allowed place.terms g.count ≡ false → WalkedBy archive place basis g.sheet (walked.Refused not_in_calendar)
+      walked_late : g.fine ≡ true → dates_allowed place.terms g.count ≡ false → outcome r ≡ refused not_in_calendar → WalkedBy archive place basis g.sheet r
       unfolding quarters_of ◌>>=◌ ◌>>◌ require
-      walked_late f l = walked_refused g.sheet not_in_calendar (rw (h.are, ← h.count, counted, ← h.fine, f, l))
+      walked_late f l a = walked_refused g.sheet r not_in_calendar (rw (h.are, ← h.count, counted, ← h.fine, f, l)) a
 
       quarters_read_lem : g.fine ≡ true → dates_allowed place.terms g.count ≡ true → quarters_of archive place basis ≡ given (quarters_read place h.entries)
       unfolding quarters_of ◌>>=◌ ◌>>◌ require
@@ -177,13 +174,14 @@ module _ (archive : List ℕ) (place : settle.Place) (basis : Basis) where
       few : length h.entries ≤ 2976
       few = omega (arith, leb-true g.count 2976 (both (leb 1 g.count) _ counted).1, h.count)
 
-      walked_given : g.fine ≡ true → dates_allowed place.terms g.count ≡ true → bounds.Bounded basis.reference
-          → WalkedBy archive place basis g.sheet (walked.Count g.count)
-      walked_given f l bounded =
+      walked_given : g.fine ≡ true → dates_allowed place.terms g.count ≡ true → bounds.Bounded basis.reference → outcome r ≡ given g.count
+          → WalkedBy archive place basis g.sheet r
+      unfolding ◌>>=◌
+      walked_given f l bounded a =
           let size : length (quarters_read place h.entries) ≡ length h.entries = map_from_length _ 0 h.entries in
           let is = quarters_read_lem f l in
           record {
-            answers = rw (is, size) (ap walked.Count h.count);
+            answers = a ∙ rw (is, size) (ap given h.count);
             writes = λ quarters i k.
                 let e = same_given i is in rw (e, size) (h.sheet f (omega (arith, k, ap (λ (qs : List Quarter). length qs) e, size)));
             fits = λ quarters i. rw (same_given i is)
@@ -191,117 +189,66 @@ module _ (archive : List ℕ) (place : settle.Place) (basis : Basis) where
                 (rw (← size) (sum_low _ _ (quarters_read place h.entries) (all_weaker _ (λ q e. exact_small place.terms basis.reference q bounded e) (all_passed (readable place.terms basis.reference) _ (sym h.fine ∙ f))))));
           }
 
-    walked_ended : bounds.Bounded basis.reference → WalkedBy archive place basis g.sheet (answer_at_end place.terms g.count g.fine)
+    pub walked_ended : bounds.Bounded basis.reference → outcome r ≡ answer_at_end place.terms g.count g.fine → WalkedBy archive place basis g.sheet r
     unfolding answer_at_end
     walked_ended bounded = by (leb 1 g.count && leb g.count 2976) g.fine (dates_allowed place.terms g.count) refl refl refl
       where
         by : (counted fine allowed : Bool) → (leb 1 g.count && leb g.count 2976) ≡ counted → g.fine ≡ fine → dates_allowed place.terms g.count ≡ allowed
-            → WalkedBy archive place basis g.sheet
-            (cond counted (cond fine (cond allowed (walked.Count g.count) (walked.Refused not_in_calendar)) (walked.Refused out_of_range)) (walked.Refused bad_count))
-        by false fine allowed c f l = walked_uncounted c
-        by true false allowed c f l = walked_unreadable c f
-        by true true false c f l = walked_late c f l
-        by true true true c f l = walked_given c f l bounded
-
--- ---- at the chain's end, by the code's tests
-
-module _ (terms : Terms) (count : ℕ) (fine : Bool) where
-  pub end_uncounted : (leb 1 count && leb count 2976) ≡ false → walked.Refused bad_count ≡ answer_at_end terms count fine
-  unfolding answer_at_end
-  end_uncounted c = rw c
-
-  module _ (counted : (leb 1 count && leb count 2976) ≡ true) where
-    pub end_unreadable : fine ≡ false → walked.Refused out_of_range ≡ answer_at_end terms count fine
-    unfolding answer_at_end
-    end_unreadable f = rw (counted, f)
-
-    module _ (readable : fine ≡ true) where
-      pub end_late : dates_allowed terms count ≡ false → walked.Refused not_in_calendar ≡ answer_at_end terms count fine
-      unfolding answer_at_end
-      end_late l = rw (counted, readable, l)
-
-      pub end_given : dates_allowed terms count ≡ true → walked.Count count ≡ answer_at_end terms count fine
-      unfolding answer_at_end
-      end_given l = rw (counted, readable, l)
+            → outcome r
+            ≡ cond counted (cond fine (cond allowed (given g.count) (refused not_in_calendar)) (refused out_of_range)) (refused bad_count)
+            → WalkedBy archive place basis g.sheet r
+        by false fine allowed c f l a = walked_uncounted c a
+        by true false allowed c f l a = walked_unreadable c f a
+        by true true false c f l a = walked_late c f l a
+        by true true true c f l a = walked_given c f l bounded a
 
 -- ---- the walk of the code
 
--- it stands before a link, with a sheet that was `start`: for each reference that the code's stands for, the law of walking
-pub record Going (archive : List ℕ) (used measure first : ℕ) (terms : Terms) (reference : Reference) (powers start : List ℕ) (last link : ℕ) (g : Gathered) : Type 0 where
-  pub walking : (ref : book.Reference) → Means reference powers ref
-      → Walking (stepped terms ref) archive used quarter_kind measure first (state 0 true start) last link g
-  pub below : last < used
-  pub counted : g.count ≤ last
+-- it stands where the iterator does, with a sheet that was `start`: for each reference that is meant, the law of walking
+pub record Going (archive : List ℕ) (used measure first : ℕ) (terms : Terms) (means : book.Reference → Type 0) (start : List ℕ) (at : Chain) (g : Gathered) : Type 0 where
+  pub along : Along archive used quarter_kind at
+  pub below : at.last < used
+  pub walking : (ref : book.Reference) → means ref → Walking (stepped terms ref) archive used quarter_kind measure first (state 0 true start) at g
+  pub counted : g.count ≤ at.last
   pub size : length g.sheet ≡ length start
 
-module _ {archive : List ℕ} {used measure first : ℕ} {terms : Terms} {reference : Reference} {powers start : List ℕ} where
-  pub going_starts : measure < used → Going archive used measure first terms reference powers start measure first (state 0 true start)
-  going_starts below = record { walking = λ ref m. walk_starts _ archive used quarter_kind below; below = below; counted = omega arith; size = refl }
-
-  module _ {last link : ℕ} {g : Gathered} (h : Going archive used measure first terms reference powers start last link g) where
-    pub going_counts : used < 65536 → Fits w64 (g.count + 1)
-    going_counts few = record { fits = omega (arith, h.counted, h.below) }
-
-    pub going_few : used < 65536 → g.count < 65536
-    going_few few = omega (arith, h.counted, h.below)
-
-    pub going_on : {n next : ℕ} {fine : Bool} {sheet : List ℕ} (magnitude : Exact) → Met archive used quarter_kind last link n → next ≡ next_of (record_at archive n)
-        → ((ref : book.Reference) → Means reference powers ref → magnitude ≡ exact_at terms ref g.count (record_at archive n))
-        → fine ≡ (is_in_range magnitude && g.fine) → sheet ≡ entered g.sheet g.count magnitude → length sheet ≡ length g.sheet
-        → Going archive used measure first terms reference powers start n next (state (g.count + 1) fine sheet)
-    going_on magnitude met e i f w k = record {
-      walking = λ ref m. walk_turns _ archive used quarter_kind (h.walking ref m) met e (rw (f, w, i ref m));
-      below = met.below;
-      counted = omega (arith, h.counted, met.rises);
-      size = k ∙ h.size;
-    }
-
-module _ {archive powers start : List ℕ} {reference : Reference} {first last link : ℕ} {g : Gathered} (place : Place)
-    (starts : first ≡ first_quarter (record_at archive place.measure))
-    (h : Going archive place.used place.measure first (meaning place.terms) reference powers start last link g) where
-  pub walks_refused : {answer : Link} {r : ℕ} → answer ≡ link_answer link (follow archive place.used quarter_kind last link) → NoAt answer → (link ≡ 0 → ⊥)
-      → r ≡ refusal_of answer 0 → Walks archive place reference powers g.sheet (walked.Refused r)
-  walks_refused {answer} a none z i = record {
-    by = λ basis m.
-        rw i (walked_chain archive (meant archive place) basis g.sheet _
-        (rw starts at (walk_refused _ archive place.used quarter_kind (h.walking basis.reference m) a none z)));
+module _ {archive : List ℕ} {used measure first : ℕ} (terms : Terms) (means : book.Reference → Type 0) (start : List ℕ) where
+  pub going_starts : {at : Chain} → Starts archive used quarter_kind measure first at → measure < used → Going archive used measure first terms means start at (state 0 true start)
+  going_starts s below = record {
+    along = along_starts s;
+    below = rw s.last_is below;
+    walking = λ ref m. walk_starts _ _ _ _ _ _ _ s below;
+    counted = omega arith;
+    size = refl;
   }
 
-  module _ (end : link ≡ 0) where
-    ends : (basis : Basis) → Means reference powers basis.reference
-        → Ended (meaning place.terms) basis.reference (quarter_chain archive (meant archive place)) g
-    ends basis m =
-        ended (meaning place.terms) basis.reference _ start g h.size
-        (rw starts at (walk_ends _ archive place.used quarter_kind (h.walking basis.reference m) end))
+  module _ {at : Chain} {g : Gathered} (h : Going archive used measure first terms means start at g) where
+    pub going_on : {n : ℕ} {then : Chain} {fine : Bool} {sheet : List ℕ} (magnitude : Option ℕ) → Turns at n then
+        → ((ref : book.Reference) → means ref → magnitude ≡ exact_at terms ref g.count (record_at archive n))
+        → fine ≡ (is_in_range magnitude && g.fine) → sheet ≡ entered g.sheet g.count magnitude → length sheet ≡ length g.sheet
+        → Going archive used measure first terms means start then (state (g.count + 1) fine sheet)
+    going_on magnitude t i f w k =
+        let met = along_meets h.along t in
+        record {
+          along = along_turns h.along t;
+          below = rw t.last_is met.below;
+          walking = λ ref m. walk_turns _ _ _ _ _ _ _ (h.walking ref m) t (rw (f, w, i ref m) refl);
+          counted = omega (arith, h.counted, met.rises, t.last_is);
+          size = k ∙ h.size;
+        }
 
-    pub walks_ended : {answer : Walked} → answer ≡ answer_at_end (meaning place.terms) g.count g.fine → Bounded reference → Walks archive place reference powers g.sheet answer
-    walks_ended e bounded = record {
-      by = λ basis m.
-          rw e (walked_ended archive (meant archive place) basis g (ends basis m) (means_bounded reference powers basis.reference m bounded));
-    }
+module _ (archive : List ℕ) (place : Place) {first : ℕ} (starts : first ≡ first_quarter (record_at archive place.measure))
+    (means : book.Reference → Type 0) {start : List ℕ} {at : Chain} {g : Gathered}
+    (h : Going archive place.used place.measure first (meaning place.terms) means start at g) (basis : Basis) (m : means basis.reference) where
+  pub walks_refused : {e : Refusal} → Refuses at e → WalkedBy archive (meant archive place) basis g.sheet (Err e)
+  walks_refused {e} r =
+      walked_chain archive (meant archive place) basis g.sheet e (rw starts at (walk_refused _ _ _ _ _ _ _ (h.walking basis.reference m) r))
 
--- where T is by the factor, no power of a curve is read
-pub divided_by_factor : {reference : Reference} {pn : Watt} {d : ℕ} {powers : List ℕ} → reference ≡ ByFactor pn → Divided reference d powers → Divided (ByFactor pn) d []
-divided_by_factor {reference} {pn} {d} {powers} told h =
-    let k = subst (λ (r : Reference). Divided r d powers) told h in
-    record { held = record { bounded = k.held.bounded; ref = k.held.ref; means = k.held.means }; divides = k.divides }
-
--- a walk over which no power of a curve was lent, by the reference that the code was told
-pub walks_as : {archive powers sheet : List ℕ} {place : Place} {reference : Reference} (x : Reference) {answer : Walked} → reference ≡ x
-    → ((basis : Basis) → Means x powers basis.reference → Means x [] basis.reference)
-    → Walks archive place x [] sheet answer → Walks archive place reference powers sheet answer
-walks_as {archive} {powers} {sheet} {place} {reference} x {answer} told means w = record {
-  by = λ basis m. w.by basis (means basis (subst (λ (r : Reference). Means r powers basis.reference) told m));
-}
-
--- ---- a place of the sheet
-
-module _ (sheet : List ℕ) (count m : ℕ) (magnitude : Exact) (e : magnitude ≡ exact.Of m) where
-  pub entered_past : length sheet ≤ count → (true ≡ is_in_range magnitude) × (sheet ≡ entered sheet count magnitude)
-  entered_past h = rw e (refl, sym (set_out sheet count m h))
-
-  pub entered_at : (true ≡ is_in_range magnitude) × (set sheet count m ≡ entered sheet count magnitude)
-  entered_at = rw e (refl, refl)
+  pub walks_ended : at.link ≡ 0 → (r : Result ℕ Refusal) → outcome r ≡ answer_at_end (meaning place.terms) g.count g.fine → bounds.Bounded basis.reference
+      → WalkedBy archive (meant archive place) basis g.sheet r
+  walks_ended end r e bounded =
+      walked_ended archive (meant archive place) basis g
+      (ended (meaning place.terms) basis.reference _ start g h.size (rw starts at (walk_ends _ _ _ _ _ _ _ (h.walking basis.reference m) end))) r bounded e
 
 -- ---- the calendar's end
 

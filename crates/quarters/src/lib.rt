@@ -2,29 +2,36 @@
 // is written into a sheet.
 #![tactic(auto)]
 
-ghost use Rattle.std.specs.Prelude.{◌≡◌, ◌&&◌, [], ◌≤◌, leb};
-ghost use Rattle.std.specs.Int.Signed.{mag};
-ghost use Rattle.rules.specs.October.{bounding_of};
-ghost use Rattle.rules.specs.Settle.{dates_allowed};
+ghost use Rattle.std.specs.Prelude.{◌≡◌, ◌&&◌, ℕ, [], ◌+◌, ◌≤◌, ◌<◌, leb};
+ghost use Rattle.rules.specs.Reference as book;
+ghost use Rattle.rules.specs.Results.{outcome};
+ghost use Rattle.rules.specs.Settle.{dates_allowed, Basis};
+ghost use Rattle.rules.specs.Terms as book_terms;
+ghost use Rattle.rules.proofs.Bounds as bounds;
 ghost use Rattle.terms.specs.Meanings.{meaning};
-ghost use Rattle.place.specs.Places.{Lies};
-ghost use Rattle.reference.specs.References.{Divided};
-ghost use Rattle.reference.specs.Manners.{manner_of, Fits};
-ghost use Rattle.quarters.specs.Walks.{is_in_range, entered, answer_at_end, Walks};
+ghost use Rattle.place.specs.Places.{meant, Lies};
+ghost use Rattle.reference.specs.References.{Means, Divided};
+ghost use Rattle.reference.specs.declared.Reference.TheVariants.{ByFactor, LastMeasured};
+ghost use Rattle.reference.specs.Manners.{Fits};
+ghost use Rattle.exact.specs.Exacts.{quarter_answer};
+ghost use Rattle.quarters.specs.Readers.{IsPlain, IsDated, IsBounded};
+ghost use Rattle.quarters.specs.Walks.{is_in_range, entered, answer_at_end, WalkedBy, Walks};
 
-use chains::Link;
-use exact::Exact;
+use calendar::Clock;
+use chains::Chain;
 use place::Place;
+use record::Record;
 use reference::{Manner, Reference};
-use rules::{Bounding, kind, refusal};
+use rules::{Bounding, Refusal, kind};
 use terms::Terms;
 use units::Watt;
 
-// A magnitude goes to its place of the sheet, if the sheet has that place; the answer is whether it is in range.
-fn enter(sheet: &mut [u64], count: usize, magnitude: Exact) -> bool
+// A magnitude goes to its place of the sheet, if the sheet has that place; the answer is whether it is in range, which the
+// walk needs at its end.
+fn enter(sheet: &mut [u64], count: usize, magnitude: Option<u64>) -> bool
     ensures { (result ≡ is_in_range magnitude) × (sheet.new ≡ entered sheet.old count magnitude) }
 {
-    let Exact::Of(m) = magnitude else {
+    let Some(m) = magnitude else {
         return false;
     };
     if sheet.len() <= count {
@@ -38,7 +45,7 @@ fn enter(sheet: &mut [u64], count: usize, magnitude: Exact) -> bool
 fn in_count_range(count: usize) -> bool
     ensures { result ≡ (leb 1 count && leb count 2976) }
 {
-    (1 <= count) & (count <= 2976)
+    (1..=2976).contains(&count)
 }
 
 // A dated measure's last of so many quarters isn't past the calendar's end, and so neither is the first.
@@ -50,141 +57,137 @@ fn in_calendar(terms: Terms, count: usize) -> bool
     (first.0 == 0) | (first.0 <= calendar::LAST_QUARTER - (count as u64 - 1))
 }
 
-// The count of quarters, or a refusal: 2, 3, 8, 9 or 18.
-#[derive(Clone, Copy)]
-pub enum Walked {
-    Count(u64),
-    Refused(u64),
-}
-
-// At the chain's end: 8, then 9, then 18.
-fn answer_at_end(terms: Terms, count: usize, fine: bool) -> Walked
-    ensures { result ≡ answer_at_end (meaning terms) count fine }
+// At the chain's end: 8, then 9, then 18. `fine`, whether every quarter was in range, is a truth by itself: 8, which only the count at the
+// chain's end tells, comes before 9, so no quarter can end the walk with a refusal.
+#[tactic(auto, unfolding(crate::specs::Walks::answer_at_end))]
+fn answer_at_end(terms: Terms, count: usize, fine: bool) -> Result<u64, Refusal>
+    ensures { outcome result ≡ answer_at_end (meaning terms) count fine }
 {
-    let counted = in_count_range(count);
-    if !counted {
-        return Walked::Refused(refusal::BAD_COUNT);
+    if !in_count_range(count) {
+        return Err(Refusal::BadCount);
     }
     if !fine {
-        return Walked::Refused(refusal::OUT_OF_RANGE);
+        return Err(Refusal::OutOfRange);
     }
     if !in_calendar(terms, count) {
-        return Walked::Refused(refusal::NOT_IN_CALENDAR);
+        return Err(Refusal::NotInCalendar);
     }
-    Walked::Count(count as u64)
+    Ok(count as u64)
+}
+
+// What a measure's quarters are read by, one after another.
+trait Quarters {
+    // the measure's terms, and the references that this stands for
+    ghost terms: { Self → book_terms.Terms };
+
+    ghost means: { Self → book.Reference → Type 0 };
+
+    // what holds before the quarter with an index along the chain
+    ghost ready: { Self → ℕ → Type 0 };
+
+    // From a quarter's index and its record: its exact magnitude, if what is needed of it is in range.
+    fn exact(&mut self, index: u64, r: &Record) -> Option<u64>
+        requires few { index < 65536 }
+        requires at_index { ready self.old index }
+        ensures magnitude { (ref : book.Reference) → means self.old ref
+            → result ≡ quarter_answer (terms self.old) ref (book_terms.quarter_of (terms self.old) index r.now) }
+        ensures goes_on { ready self.new (index + 1) }
+        ensures same_terms { terms self.new ≡ terms self.old }
+        ensures same_means { (ref : book.Reference) → means self.old ref → means self.new ref };
+}
+
+// Where T isn't found by the date, and nothing bounds it or L.
+#[derive(Drop)]
+struct Plain<'a> {
+    terms: Terms,
+    reference: Reference,
+    d: u64,
+    powers: &'a [u32],
+}
+
+impl<'a> Quarters for Plain<'a> {
+    ghost terms = { λ s. meaning s.terms };
+
+    ghost means = { λ s ref. Means s.reference s.powers.now ref };
+
+    ghost ready = { λ s _. IsPlain s.reference s.d s.powers.now (meaning s.terms) };
+
+    fn exact(&mut self, index: u64, r: &Record) -> Option<u64> {
+        exact::exact_of(self.terms, index, self.reference, self.d, self.powers, r)
+    }
+}
+
+// Where T is found by the date, in solar Pauschal: a clock goes along.
+#[derive(Drop)]
+struct Dated {
+    terms: Terms,
+    clock: Clock,
+    pn: Watt,
+    d: u64,
+}
+
+impl Quarters for Dated {
+    ghost terms = { λ s. meaning s.terms };
+
+    ghost means = { λ s ref. Means (ByFactor s.pn) [] ref };
+
+    ghost ready = { λ s index. IsDated s.pn s.d (meaning s.terms) index s.clock };
+
+    fn exact(&mut self, index: u64, r: &Record) -> Option<u64> {
+        let clock = self.clock;
+        self.clock = calendar::after(clock, index + 1);
+        exact::exact_by_date(self.terms, index, clock, self.pn, self.d, r)
+    }
+}
+
+// Where readings of the quarters bound T, which is P0, or L: wind and other Pauschal from October 2026 on (document 02, 3).
+#[derive(Drop)]
+struct Bounded {
+    terms: Terms,
+    bounding: Bounding,
+    p0: Watt,
+}
+
+impl Quarters for Bounded {
+    ghost terms = { λ s. meaning s.terms };
+
+    ghost means = { λ s ref. Means (LastMeasured s.p0) [] ref };
+
+    ghost ready = { λ s _. IsBounded s.p0 s.bounding (meaning s.terms) };
+
+    fn exact(&mut self, _index: u64, r: &Record) -> Option<u64> {
+        exact::exact_bounded(self.terms, self.bounding, self.p0, r)
+    }
 }
 
 // The chain is walked to its end, however long, before the tests there. A sheet of any length will do: a magnitude that has no place
 // there is tested and counted only.
-
-// Where T isn't found by the date, and nothing bounds it or L.
-fn walk_plain(
+fn walk_by<Q: Quarters>(
     archive: &[u8],
     place: Place,
-    reference: Reference,
-    d: u64,
-    powers: &[u32],
+    quarters: &mut Q,
     sheet: &mut [u64],
-) -> Walked
+) -> Result<u64, Refusal>
     requires lies { Lies archive.now place }
-    requires divided { Divided reference d powers.now }
-    requires value { Manner.Plain ≡ manner_of reference (meaning place.terms) }
-    requires value_2 { Bounding.Unbounded ≡ bounding_of (meaning place.terms) }
-    ensures { Walks archive.now place reference powers.now sheet.new result }
+    requires of_place { Q.terms quarters.old ≡ meaning place.terms }
+    requires at_first { Q.ready quarters.old 0 }
+    requires bounded { (ref : book.Reference) → Q.means quarters.old ref → bounds.Bounded ref }
+    ensures { (basis : Basis) → Q.means quarters.old basis.reference → WalkedBy archive.now (meant archive.now place) basis sheet.new result }
 {
-    let used = place.used;
-    let terms = place.terms;
-    let mut last = place.measure;
-    let mut link = record::link_of(archive, last, 12);
     let mut count: usize = 0;
     let mut fine = true;
-    while link != 0 {
-        let answer = chains::follow(archive, used, kind::QUARTER, last, link);
-        let Link::At(n) = answer else {
-            return Walked::Refused(chains::refusal_of(answer, 0));
-        };
-        let i = n as usize;
-        let index = count as u64;
-        let r = &archive[32 * i..32 * i + 32];
-        let magnitude = exact::exact_of(terms, index, reference, d, powers, r);
+    let first = record::link_of(archive, place.measure, 12);
+    for step in Chain::starting(archive, place.used, kind::QUARTER, place.measure, first) {
+        let n = step?;
+        let r = record::record_at(archive, n);
+        let magnitude = quarters.exact(count as u64, r);
         fine = enter(sheet, count, magnitude) & fine;
         count += 1;
-        last = n;
-        link = record::link_of(archive, n, 4);
     }
-    answer_at_end(terms, count, fine)
+    answer_at_end(place.terms, count, fine)
 }
 
-// Where T is found by the date, in solar Pauschal: a clock goes along.
-fn walk_by_date(archive: &[u8], place: Place, pn: Watt, d: u64, sheet: &mut [u64]) -> Walked
-    requires lies { Lies archive.now place }
-    requires divided { Divided (Reference.ByFactor pn) d [] }
-    requires bound { 1 ≤ (meaning place.terms).first }
-    requires value { Bounding.Unbounded ≡ bounding_of (meaning place.terms) }
-    ensures { Walks archive.now place (Reference.ByFactor pn) [] sheet.new result }
-{
-    let used = place.used;
-    let terms = place.terms;
-    let mut last = place.measure;
-    let mut link = record::link_of(archive, last, 12);
-    let mut count: usize = 0;
-    let mut fine = true;
-    let first = terms.first;
-    let mut clock = calendar::clock_of(first);
-    while link != 0 {
-        let answer = chains::follow(archive, used, kind::QUARTER, last, link);
-        let Link::At(n) = answer else {
-            return Walked::Refused(chains::refusal_of(answer, 0));
-        };
-        let i = n as usize;
-        let index = count as u64;
-        let r = &archive[32 * i..32 * i + 32];
-        let magnitude = exact::exact_by_date(terms, index, clock, pn, d, r);
-        fine = enter(sheet, count, magnitude) & fine;
-        count += 1;
-        last = n;
-        link = record::link_of(archive, n, 4);
-        clock = calendar::after(clock, count as u64);
-    }
-    answer_at_end(terms, count, fine)
-}
-
-// Where readings of the quarters bound T, which is P0, or L: wind and other Pauschal from October 2026 on (document 02, 3).
-fn walk_bounded(
-    archive: &[u8],
-    place: Place,
-    bounding: Bounding,
-    p0: Watt,
-    sheet: &mut [u64],
-) -> Walked
-    requires lies { Lies archive.now place }
-    requires p0_bound { mag p0.0 ≤ 1000000000 }
-    requires bounding_value { bounding ≡ bounding_of (meaning place.terms) }
-    ensures { Walks archive.now place (Reference.LastMeasured p0) [] sheet.new result }
-{
-    let used = place.used;
-    let terms = place.terms;
-    let mut last = place.measure;
-    let mut link = record::link_of(archive, last, 12);
-    let mut count: usize = 0;
-    let mut fine = true;
-    while link != 0 {
-        let answer = chains::follow(archive, used, kind::QUARTER, last, link);
-        let Link::At(n) = answer else {
-            return Walked::Refused(chains::refusal_of(answer, 0));
-        };
-        let i = n as usize;
-        let r = &archive[32 * i..32 * i + 32];
-        let magnitude = exact::exact_bounded(terms, bounding, p0, r);
-        fine = enter(sheet, count, magnitude) & fine;
-        count += 1;
-        last = n;
-        link = record::link_of(archive, n, 4);
-    }
-    answer_at_end(terms, count, fine)
-}
-
-// The quarters of a measure, with a clock, with readings that bound or with neither; d is D.
+// The quarters of a measure, with a clock, with readings that bound or with neither; d is D. The count of quarters, or 2, 3, 8, 9 or 18.
 pub fn walk(
     archive: &[u8],
     place: Place,
@@ -192,7 +195,7 @@ pub fn walk(
     d: u64,
     powers: &[u32],
     sheet: &mut [u64],
-) -> Walked
+) -> Result<u64, Refusal>
     requires lies { Lies archive.now place }
     requires divided { Divided reference d powers.now }
     requires fits { Fits reference (meaning place.terms) }
@@ -200,8 +203,32 @@ pub fn walk(
 {
     let terms = place.terms;
     match reference::manner_of(reference, terms) {
-        Manner::Plain => walk_plain(archive, place, reference, d, powers, sheet),
-        Manner::ByDate(pn) => walk_by_date(archive, place, pn, d, sheet),
-        Manner::Bounded(bounding, p0) => walk_bounded(archive, place, bounding, p0, sheet),
+        Manner::Plain => {
+            let mut plain = Plain {
+                terms,
+                reference,
+                d,
+                powers,
+            };
+            walk_by(archive, place, &mut plain, sheet)
+        }
+        Manner::ByDate(pn) => {
+            let clock = calendar::clock_of(terms.first);
+            let mut dated = Dated {
+                terms,
+                clock,
+                pn,
+                d,
+            };
+            walk_by(archive, place, &mut dated, sheet)
+        }
+        Manner::Bounded(bounding, p0) => {
+            let mut bounded = Bounded {
+                terms,
+                bounding,
+                p0,
+            };
+            walk_by(archive, place, &mut bounded, sheet)
+        }
     }
 }

@@ -15,8 +15,7 @@ use Rattle.rules.specs.October.{bounded_by, reading_allowed}
 use Rattle.rules.proofs.Ints.{smaller_yes}
 use Rattle.rules.proofs.Bounds.{smallest_small}
 use Rattle.units.specs.declared.Watt.{Watt}
-use Rattle.record.specs.declared.Power.{Power}
-use Rattle.record.specs.declared.Power.TheVariants as power
+use Rattle.std.specs.Prelude.{Some, None}
 use Rattle.record.specs.Powers.{SmallestOf}
 
 -- none stands above every power in range
@@ -56,22 +55,15 @@ module _ (r : List ℕ) (at : ℕ) where
     allowed_is : (t || eqb word 2147483647) ≡ reading_allowed (reading_at r at)
     allowed_is = rw (tested, field_is, read) (sym test_is)
 
-    pub bound_out_of_range : (a : Watt) → not (t || eqb word 2147483647) ≡ true → SmallestOf (reading_at r at ∷ []) a.0 power.OutOfRange
+    pub bound_out_of_range : (a : Watt) → not (t || eqb word 2147483647) ≡ true → SmallestOf (reading_at r at ∷ []) a.0 None
     bound_out_of_range a e = rw (sym allowed_is ∙ not-true _ e)
 
     pub bound_in_range : (a n : Watt) → mag a.0 ≤ 1000000000 → n.0 ≡ smaller a.0 p.0 → not (t || eqb word 2147483647) ≡ false
-        → SmallestOf (reading_at r at ∷ []) a.0 (power.Of n)
+        → SmallestOf (reading_at r at ∷ []) a.0 (Some n)
     bound_in_range a n h k e = (rw (sym allowed_is ∙ not-false _ e), k ∙ ap (smaller a.0) field_is ∙ sym (bound_is a.0 h))
 
 -- ---- the smallest of a power and readings
 
--- it is the power, where there is no reading to compare
-pub smallest_alone : {rs : List Reading} (a : Watt) → rs ≡ [] → SmallestOf rs a.0 (power.Of a)
-smallest_alone a e = rw e (refl, refl)
-
-pub smallest_as : {rs ss : List Reading} (n : ℤ) (p : Power) → rs ≡ ss → SmallestOf ss n p → SmallestOf rs n p
-smallest_as n p e h = rw e h
-
 -- it is a power
-pub smallest_power : (rs : List Reading) (n : ℤ) {p : Watt} → mag n ≤ 1000000000 → SmallestOf rs n (power.Of p) → mag p.0 ≤ 1000000000
+pub smallest_power : (rs : List Reading) (n : ℤ) {p : Watt} → mag n ≤ 1000000000 → SmallestOf rs n (Some p) → mag p.0 ≤ 1000000000
 smallest_power rs n h k = subst (λ (z : ℤ). mag z ≤ 1000000000) (sym k.1) (smallest_small rs n h k.0)

@@ -5,18 +5,31 @@ ghost use Rattle.std.specs.Prelude.{◌≡◌, ◌+◌, ◌*◌, ◌^◌, ◌≤
 ghost use Rattle.std.specs.Int.Signed.{mag};
 ghost use Rattle.rules.specs.Archive.{link_at, field_at, record_at, kind_of};
 ghost use Rattle.rules.specs.Terms.{reading_at};
-ghost use Rattle.rules.specs.Links.{is_kind, links_of, links_at};
-ghost use Rattle.record.specs.Slots.{slot_answer};
+ghost use Rattle.rules.specs.Links.{is_kind, owned_by, owned_at, links_of, links_at};
+ghost use Rattle.record.specs.Linked.{listed};
 ghost use Rattle.record.specs.Powers.{PowerOf, SmallestOf};
 
 use rules::kind;
 use units::Watt;
 
+// The bytes of a record. An archive and a record's number, and bytes and a field's place, stay two parameters: a struct of both would be made
+// for one read, and be taken apart in its clause.
+pub type Record = [u8; 32];
+
+// Record n of an archive.
+pub fn record_at(archive: &[u8], n: u64) -> &Record
+    requires { 32 * n + 32 ≤ length archive.now }
+    ensures { result.now ≡ record_at archive.now n }
+{
+    let start = 32 * n as usize;
+    archive[start..start + 32].first_chunk().unwrap()
+}
+
 // A byte as a number of 64 bits.
 fn wide(x: u8) -> u64
     ensures { (result ≡ x) × (result < 256) }
 {
-    x as u64
+    u64::from(x)
 }
 
 // Four bytes, little-endian, joined by shifts (document 02, 4).
@@ -35,29 +48,23 @@ pub fn watt_at(r: &[u8], at: usize) -> Watt
     units::watt_of(link_at(r, at))
 }
 
-#[derive(Clone, Copy)]
-pub enum Power {
-    Of(Watt),
-    OutOfRange,
-}
-
 // Measured power, limit or plan, in its range.
-pub fn power_at(r: &[u8], at: usize) -> Power
+pub fn power_at(r: &[u8], at: usize) -> Option<Watt>
     requires { at + 4 ≤ length r.now }
     ensures { PowerOf (field_at r.now at) result }
 {
     let power = watt_at(r, at);
     if !units::in_power_range(power) {
-        return Power::OutOfRange;
+        return None;
     }
-    Power::Of(power)
+    Some(power)
 }
 
 // The number that means that there is no reading (document 02, 3). It is above every power in range.
 const NO_READING: u64 = 2147483647;
 
 // The smaller of a power and a reading of the record, which may be none.
-pub fn bounded_at(a: Watt, r: &[u8], at: usize) -> Power
+pub fn bounded_at(a: Watt, r: &[u8], at: usize) -> Option<Watt>
     requires at_in_bounds { at + 4 ≤ length r.now }
     requires a_bound { mag a.0 ≤ 1000000000 }
     ensures { SmallestOf (reading_at r.now at ∷ []) a.0 result }
@@ -65,14 +72,13 @@ pub fn bounded_at(a: Watt, r: &[u8], at: usize) -> Power
     let word = link_at(r, at);
     let power = units::watt_of(word);
     if !(units::in_power_range(power) | (word == NO_READING)) {
-        return Power::OutOfRange;
+        return None;
     }
-    Power::Of(units::smaller(a, power))
+    Some(units::smaller(a, power))
 }
 
 // Byte 0 of a record.
-pub fn kind_of(r: &[u8]) -> u8
-    requires { length r.now ≡ 32 }
+pub fn kind_of(r: &Record) -> u8
     ensures { result ≡ kind_of r.now }
 {
     r[0]
@@ -83,70 +89,78 @@ pub fn link_of(archive: &[u8], n: u64, at: usize) -> u64
     requires { (32 * n + 32 ≤ length archive.now) × (at + 4 ≤ 32) }
     ensures { (result ≡ link_at (record_at archive.now n) at) × (result < 2 ^ 32) }
 {
-    let i = n as usize;
-    link_at(&archive[32 * i..32 * i + 32], at)
+    link_at(record_at(archive, n), at)
 }
 
 // The known kinds, 1-5.
 pub fn is_kind(kind: u8) -> bool
     ensures { result ≡ is_kind kind }
 {
-    kind::PLANT <= kind && kind <= kind::QUARTER
+    (kind::PLANT..=kind::QUARTER).contains(&kind)
 }
 
 // ---- links
 
-// Bytes 4-31 of a record have room for so many.
-pub const MOST_LINKS: u64 = 7;
-
 // A link of a record: the byte where it starts and the kind that it leads to.
 #[derive(Clone, Copy)]
-pub enum Slot {
-    Link(u64, u8),
-    None,
-}
+pub struct Link(pub usize, pub u8);
 
-// The i-th link of a record in byte order, counted from 0: to the next record of its chain, then to the first of each chain that it
-// owns. What it has follows from bytes 0-2.
-pub fn slot_of(r: &[u8], i: u64) -> Slot
-    requires { length r.now ≡ 32 }
-    ensures { result ≡ slot_answer (links_of r.now) i }
+// All links of a record in byte order: to the next record of its chain, then to the first of each chain that it owns. What it has follows
+// from bytes 0-2.
+pub fn links_of(r: &Record) -> &'static [Link]
+    ensures { listed result.now ≡ links_of r.now }
 {
-    let kind = kind_of(r);
-    if !is_kind(kind) {
-        return Slot::None;
+    match kind_of(r) {
+        kind::PLANT => &[
+            Link(4, kind::PLANT),
+            Link(8, kind::POINT),
+            Link(12, kind::MEASURE),
+        ],
+        kind::POINT => &[Link(4, kind::POINT)],
+        kind::MEASURE => &[
+            Link(4, kind::MEASURE),
+            Link(8, kind::BEFORE),
+            Link(12, kind::QUARTER),
+        ],
+        kind::BEFORE => &[Link(4, kind::BEFORE)],
+        kind::QUARTER => &[Link(4, kind::QUARTER)],
+        _ => &[],
     }
-    if i == 0 {
-        return Slot::Link(4, kind);
-    }
-    if kind == kind::PLANT {
-        return match i {
-            1 => Slot::Link(8, kind::POINT),
-            2 => Slot::Link(12, kind::MEASURE),
-            _ => Slot::None,
-        };
-    }
-    if kind == kind::MEASURE {
-        return match i {
-            1 => Slot::Link(8, kind::BEFORE),
-            2 => Slot::Link(12, kind::QUARTER),
-            _ => Slot::None,
-        };
-    }
-    Slot::None
 }
 
-// The i-th link of record n; the head has one, to the first plant.
-pub fn slot_at(archive: &[u8], n: u64, i: u64) -> Slot
+// Of record n; the head has one, to the first plant.
+pub fn links_at(archive: &[u8], n: u64) -> &'static [Link]
     requires { 32 * n + 32 ≤ length archive.now }
-    ensures { result ≡ slot_answer (links_at archive.now n) i }
+    ensures { listed result.now ≡ links_at archive.now n }
 {
     if n == 0 {
-        if i == 0 {
-            return Slot::Link(8, kind::PLANT);
-        }
-        return Slot::None;
+        return &[Link(8, kind::PLANT)];
     }
-    let at = n as usize;
-    slot_of(&archive[32 * at..32 * at + 32], i)
+    links_of(record_at(archive, n))
+}
+
+// Its links but the one to the next record of its chain. Most records of an archive have that one alone; audit is quicker where it reads no
+// list for it.
+pub fn owned_of(r: &Record) -> &'static [Link]
+    ensures { listed result.now ≡ owned_by r.now }
+{
+    let kind = kind_of(r);
+    if kind == kind::PLANT {
+        return &[Link(8, kind::POINT), Link(12, kind::MEASURE)];
+    }
+    if kind == kind::MEASURE {
+        return &[Link(8, kind::BEFORE), Link(12, kind::QUARTER)];
+    }
+    &[]
+}
+
+// Of record n, beside links_at as owned_of is beside links_of.
+pub fn owned_at(archive: &[u8], n: u64) -> &'static [Link]
+    requires { 32 * n + 32 ≤ length archive.now }
+    ensures { listed result.now ≡ owned_at archive.now n }
+{
+    match n {
+        0 => &[Link(8, kind::PLANT)],
+        _ => owned_of(record_at(archive, n)),
+    }
 }

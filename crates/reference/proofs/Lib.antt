@@ -1,4 +1,3 @@
 pub mod Products
 pub mod References
-pub mod Referred
 pub mod Manners

@@ -11,7 +11,7 @@ use Rattle.rules.proofs.Ints.{mag_times}
 use Rattle.units.proofs.Laws.{held}
 
 module _ (a b x y : ℤ) (n ba bn : ℕ) (ex : x ≡ a) (ey : y ≡ b) (eb : b ≡ pos n) (ha : mag a < ba) (hn : n ≤ bn) (room : ba * bn < 2 ^ 63) where
-  pub times_fits : SFits w64 (x *ℤ y)
+  times_fits : SFits w64 (x *ℤ y)
   times_fits = subst (SFits w64) (sym (ap₂ ◌*ℤ◌ ex (ey ∙ eb))) (record { sfits = omega (arith, mag_times a n ba bn ha hn) })
 
   pub times_is : held (x *ℤ y) ≡ a *ℤ b

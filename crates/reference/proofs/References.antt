@@ -1,19 +1,15 @@
--- What holds of a reference in range, by the variant that the code was told.
-use mathlib.Core.Path.{◌≡◌, sym, subst}
+-- What holds of a reference in range.
+use mathlib.Core.Path.{sym, subst}
 use mathlib.Core.List.{List}
 use Prim.Native.Nat.{ℕ, ◌≤◌}
-use native.Mathlib.Omega.{arith}
 use lib.IntN.{ℤ}
 use lib.Signed.{mag}
 use Rattle.rules.specs.Numbers.{or_zero}
 use Rattle.rules.specs.Reference as book
 use Rattle.rules.proofs.Bounds as bounds
-use Rattle.units.specs.declared.Watt.{Watt}
-use Rattle.units.specs.declared.Irradiance.{Irradiance}
-use Rattle.curve.specs.declared.Curve.{Curve}
 use Rattle.reference.specs.declared.Reference.{Reference}
 use Rattle.reference.specs.declared.Reference.TheVariants.{OnCurve, LastMeasured, OnIrradiance, ByFactor, AsPlanned}
-use Rattle.reference.specs.References.{Means, UpTo, Bounded, Held, Divides}
+use Rattle.reference.specs.References.{Means, UpTo, Bounded, Held}
 
 pub up_to_small : {n : ℕ} {z : ℤ} → UpTo n z → mag z ≤ n
 up_to_small {n} h = subst (λ (y : ℤ). mag y ≤ n) (sym h.is) h.low
@@ -51,32 +47,3 @@ bounded_meant AsPlanned powers ref m h = tt
 -- a reference in range that stands for one of the rule book
 pub held_by : {r : Reference} {powers : List ℕ} (ref : book.Reference) → Means r powers ref → bounds.Bounded ref → Held r powers
 held_by {r} {powers} ref m h = record { bounded = bounded_meant r powers ref m h; ref = ref; means = m }
-
--- ---- by the variant that the code was told
-
-pub bounded_told : {r x : Reference} → r ≡ x → Bounded r → Bounded x
-bounded_told e h = subst Bounded e h
-
-pub held_told : {r x : Reference} {powers : List ℕ} → r ≡ x → Held r powers → Held x powers
-held_told {powers} e h = subst (λ (y : Reference). Held y powers) e h
-
-module _ {r : Reference} (h : Bounded r) where
-  pub divides_curve : {a b pn : Watt} {curve : Curve} {d : ℕ} → r ≡ OnCurve a b pn curve → d ≡ or_zero b.0 → Divides r d
-  divides_curve {a} {b} {pn} {curve} {d} e f =
-      let k = bounded_told e h in
-      subst (λ (x : Reference). Divides x d) (sym e)
-      (record { is = λ powers ref m. rw m.is f; some = omega (arith, k.some, f); small = omega (arith, k.b_low.low, f) })
-
-  pub divides_last : {p0 : Watt} → r ≡ LastMeasured p0 → Divides r 1
-  divides_last e = subst (λ (x : Reference). Divides x 1) (sym e) (record { is = λ powers ref m. rw m; some = omega arith; small = omega arith })
-
-  pub divides_irradiance : {a : Watt} {b : Irradiance} → r ≡ OnIrradiance a b → Divides r b.0
-  divides_irradiance {a} {b} e =
-      let k = bounded_told e h in
-      subst (λ (x : Reference). Divides x b.0) (sym e) (record { is = λ powers ref m. rw m; some = k.some; small = omega (arith, k.b_low) })
-
-  pub divides_factor : {pn : Watt} → r ≡ ByFactor pn → Divides r 10000
-  divides_factor e = subst (λ (x : Reference). Divides x 10000) (sym e) (record { is = λ powers ref m. rw m.is; some = omega arith; small = omega arith })
-
-  pub divides_planned : r ≡ AsPlanned → Divides r 1
-  divides_planned e = subst (λ (x : Reference). Divides x 1) (sym e) (record { is = λ powers ref m. rw m; some = omega arith; small = omega arith })

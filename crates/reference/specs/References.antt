@@ -1,5 +1,5 @@
 -- What a reference of the code stands for, and what the code says of a quarter's reference power.
-use Rattle.std.specs.Prelude.{ℕ, ◌≤◌, ◌<◌, ◌≡◌, true, false, List, ℤ, pos}
+use Rattle.std.specs.Prelude.{ℕ, ◌≤◌, ◌<◌, ◌≡◌, true, false, List, ℤ, pos, Option, Some, None}
 use Rattle.std.specs.Int.Signed.{mag}
 use Rattle.rules.specs.Numbers.{or_zero}
 use Rattle.rules.specs.Terms.{Point, Quarter}
@@ -11,8 +11,6 @@ use Rattle.curve.specs.declared.Curve.{Curve}
 use Rattle.curve.specs.Tables.{Tabulates}
 use Rattle.reference.specs.declared.Reference.{Reference}
 use Rattle.reference.specs.declared.Reference.TheVariants.{OnCurve, LastMeasured, OnIrradiance, ByFactor, AsPlanned}
-use Rattle.reference.specs.declared.Numerator.{Numerator}
-use Rattle.reference.specs.declared.Numerator.TheVariants as numerator
 
 -- ---- what it stands for
 
@@ -81,6 +79,6 @@ pub record Divided (reference : Reference) (d : ℕ) (powers : List ℕ) : Type 
 -- ---- reference power
 
 -- the numerator of the quarter's T; or a field that it needs is out of range
-abbrev pub ReferredTo : book.Reference → Quarter → Numerator → Type 0
-ReferredTo ref q (numerator.Of t) = (reference_readable ref q ≡ true) × (t ≡ book.numerator ref q)
-ReferredTo ref q numerator.OutOfRange = reference_readable ref q ≡ false
+abbrev pub ReferredTo : book.Reference → Quarter → Option ℤ → Type 0
+ReferredTo ref q (Some t) = (reference_readable ref q ≡ true) × (t ≡ book.numerator ref q)
+ReferredTo ref q None = reference_readable ref q ≡ false

@@ -6,13 +6,13 @@ use mathlib.Core.List.{List, [], ◌∷◌, ◌++◌, append_assoc}
 use Prim.Native.Nat.{ℕ, suc, ◌+◌, ◌-◌, ◌≤◌, ◌<◌}
 use native.Mathlib.Nat.{mul-le-mul_right}
 use native.Mathlib.Omega.{arith}
-use borrow.Author.Tests.{lt-ltb, le-ltb, ltb-false, ne_eqb}
+use borrow.Author.Tests.{le-ltb, ltb-false, ne_eqb}
 use lib.Dec.{ltb}
 use lib.IntN.{ℤ, pos}
 use lib.ListN.{length, get_or, take, drop, drop_of_length-le, length-append}
 use lib.Seq.{length-take-le, take_at, get_or-take}
 use Rattle.rules.specs.Outcome.{Outcome, refused, given}
-use Rattle.rules.specs.Refusals.{not_archive, bad_link, wrong_kind, no_plant, no_measure}
+use Rattle.rules.specs.Refusals.{not_archive, no_plant, no_measure}
 use Rattle.rules.specs.Archive.{used_of}
 use Rattle.rules.specs.Settle.{Settlement, count_of, total_of, settled}
 use Rattle.rules.specs.Output.{Line, measure_line, quarter_line, refusal_line, lines_of, Step, next_measure, next_plant, stop, step_after, go_on, lines_from, head_refused, output, text_of, text_of_all}
@@ -20,7 +20,7 @@ use Rattle.rules.proofs.Output.{Within, step_within, lines_are, lines_given, tex
 use Rattle.rules.proofs.Writes.{wrote_none}
 use Rattle.rules.proofs.AppendSteps.{used_within}
 use Rattle.text.specs.Writes.{Writes}
-use Rattle.text.proofs.Decimals.{written_front}
+use Rattle.text.proofs.Texts.{written_front}
 use Rattle.report.specs.declared.Cursor.{Cursor}
 use Rattle.report.specs.Cursors.{rest, finished, bytes_left, start_at, settled_at, quarter_at, moved, first_at, ended_at, steps, Fits, Ends, Begins, Advances, Continues, Fills}
 use Rattle.report.proofs.Counts.{settled_counted}
@@ -80,9 +80,6 @@ module _ (archive : List ℕ) (c : Cursor) (list : List ℤ) (f : Fits archive c
 
 -- ---- the end
 
-pub finished_not : (c : Cursor) → c.place < c.count → false ≡ finished c
-finished_not c h = sym (rw (lt-ltb c.place c.count h))
-
 pub finished_if : (c : Cursor) → c.count ≤ c.place → c.done ≡ finished c
 finished_if c h = sym (rw (le-ltb c.place c.count h))
 
@@ -100,28 +97,7 @@ finished_none archive c list f e = go (ltb c.place c.count) refl e
 -- ---- refusals
 
 module _ (n : ℕ) where
-  pub step_no_plant : n ≡ no_plant → step_after (refused n) ≡ stop
-  step_no_plant e = rw e
-
-  pub step_bad_link : n ≡ bad_link → step_after (refused n) ≡ stop
-  step_bad_link e = rw e
-
-  pub step_wrong_kind : n ≡ wrong_kind → step_after (refused n) ≡ stop
-  step_wrong_kind e = rw e
-
-  pub step_no_measure : n ≡ no_measure → step_after (refused n) ≡ next_plant
-  step_no_measure e = rw e
-
-  pub step_other : (n ≡ no_plant → ⊥) → (n ≡ bad_link → ⊥) → (n ≡ wrong_kind → ⊥) → (n ≡ no_measure → ⊥) → step_after (refused n) ≡ next_measure
-  step_other four two three five = rw (ne_eqb n no_plant four, ne_eqb n bad_link two, ne_eqb n wrong_kind three, ne_eqb n no_measure five)
-
   module _ (p k : ℕ) where
-    pub no_line_4 : n ≡ no_plant → lines_of p k (refused n) ≡ []
-    no_line_4 e = rw e
-
-    pub no_line_5 : n ≡ no_measure → lines_of p k (refused n) ≡ []
-    no_line_5 e = rw e
-
     pub writes_line : {a b : List ℕ} {at e : ℕ} → (n ≡ no_plant → ⊥) → (n ≡ no_measure → ⊥) → Writes a at (text_of (refusal_line p k n)) b e
         → Writes a at (text_of_all (lines_of p k (refused n))) b e
     writes_line {a} {b} {at} {e} four five w =

@@ -1,5 +1,6 @@
 pub mod Outcome
 pub mod Refusals
+pub mod Results
 pub mod Numbers
 pub mod Calendar
 pub mod Archive

@@ -1,4 +1,5 @@
-// The kinds of records but the head (document 01, 'The archive'), by the names of specs/Archive.antt.
+// The kinds of records but the head (document 01, 'The archive'), by the names of specs/Archive.antt. Numbers
+// and no enum: chains::follow, walk_to and walk_all answer for every byte as a kind.
 
 pub const PLANT: u8 = 1;
 

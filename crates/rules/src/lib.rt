@@ -4,6 +4,8 @@
 pub mod kind;
 pub mod refusal;
 
+pub use refusal::Refusal;
+
 // Technology of a plant (byte 1).
 #[derive(Clone, Copy)]
 pub enum Technology {
@@ -77,7 +79,7 @@ pub struct Money {
     pub remainder: u64,
 }
 
-// What a correction gives: the number of its refusal or 0, and the money, which is zero where it is refused.
+// What a correction gives, as the book says it: the number of its refusal or 0, and the money, which is zero where it is refused.
 #[derive(Clone, Copy)]
 pub struct Corrected {
     pub refusal: u64,

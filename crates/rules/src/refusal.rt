@@ -1,45 +1,48 @@
-// The refusal numbers of documents 01 and 02, by the names of specs/Refusals.antt; 0 is no refusal.
+// The refusals of documents 01 and 02, by the names of specs/Refusals.antt, each with its number there.
+ghost use Rattle.std.specs.Prelude.{◌≡◌};
+ghost use Rattle.rules.specs.Outcome.{number_of};
+ghost use Rattle.rules.specs.Results.{number, outcome};
 
-pub const NOT_ARCHIVE: u64 = 1;
+#[derive(Clone, Copy, PartialEq, Eq)]
+pub enum Refusal {
+    NotArchive = 1,
+    BadLink = 2,
+    WrongKind = 3,
+    NoPlant = 4,
+    NoMeasure = 5,
+    BadPlant = 6,
+    BadMeasure = 7,
+    BadCount = 8,
+    OutOfRange = 9,
+    BadCurve = 10,
+    TooFewUsable = 11,
+    DivisorZero = 12,
+    NoRoom = 13,
+    BadRecord = 14,
+    BadOwner = 15,
+    ArchiveFull = 16,
+    NotNamedOnce = 17,
+    NotInCalendar = 18,
+    LastNotNamedOnce = 19,
+    BadEnergies = 20,
+    BadPrice = 21,
+    UnequalLists = 22,
+}
 
-pub const BAD_LINK: u64 = 2;
+impl Refusal {
+    pub fn number(self) -> u32
+        ensures { result ≡ number self }
+    {
+        self as u32
+    }
+}
 
-pub const WRONG_KIND: u64 = 3;
-
-pub const NO_PLANT: u64 = 4;
-
-pub const NO_MEASURE: u64 = 5;
-
-pub const BAD_PLANT: u64 = 6;
-
-pub const BAD_MEASURE: u64 = 7;
-
-pub const BAD_COUNT: u64 = 8;
-
-pub const OUT_OF_RANGE: u64 = 9;
-
-pub const BAD_CURVE: u64 = 10;
-
-pub const TOO_FEW_USABLE: u64 = 11;
-
-pub const DIVISOR_ZERO: u64 = 12;
-
-pub const NO_ROOM: u64 = 13;
-
-pub const BAD_RECORD: u64 = 14;
-
-pub const BAD_OWNER: u64 = 15;
-
-pub const ARCHIVE_FULL: u64 = 16;
-
-pub const NOT_NAMED_ONCE: u64 = 17;
-
-pub const NOT_IN_CALENDAR: u64 = 18;
-
-pub const LAST_NOT_NAMED_ONCE: u64 = 19;
-
-pub const BAD_ENERGIES: u64 = 20;
-
-pub const BAD_PRICE: u64 = 21;
-
-pub const UNEQUAL_LISTS: u64 = 22;
+// What a call returns that gives nothing else: the number of its refusal, or 0.
+pub fn number_of(answer: Result<(), Refusal>) -> u32
+    ensures { result ≡ number_of (outcome answer) }
+{
+    match answer {
+        Ok(()) => 0,
+        Err(refusal) => refusal.number(),
+    }
+}

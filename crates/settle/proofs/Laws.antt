@@ -15,12 +15,13 @@ use Rattle.rules.specs.Promises.{Settles}
 use Rattle.rules.proofs.Demand.{settle_keeps}
 use Rattle.units.specs.declared.WattHour.{WattHour}
 use Rattle.prepare.specs.declared.Measure.{Measure}
-use Rattle.prepare.specs.declared.Prepared.{Prepared}
-use Rattle.prepare.specs.declared.Prepared.TheVariants as prepared
-use Rattle.prepare.specs.Answers.{Stands, Prepares}
-use Rattle.prepare.proofs.Laws.{in_sheet, sheet_length, not_ready}
-use Rattle.settle.specs.declared.Settled.TheVariants as answer
-use Rattle.settle.specs.Answers.{answered, prepared_number}
+use Rattle.std.specs.Prelude.{Ok, Err}
+use Rattle.rules.specs.Results.{number}
+use Rattle.rules.specs.declared.refusal.Refusal.{Refusal}
+use Rattle.rules.specs.declared.refusal.Refusal.TheVariants.{NoRoom}
+use Rattle.prepare.specs.Answers.{Stands}
+use Rattle.prepare.proofs.Laws.{in_sheet, sheet_length}
+use Rattle.settle.specs.Answers.{answered}
 
 same_answer : (count count' : ℕ) (total total' : ℤ) (links links' : ℕ) → count ≡ count' → total ≡ total' → links ≡ links'
     → ◌≡◌ {A = Answer} (record { number = 0; count = count; total = total; links = links }) (record { number = 0; count = count'; total = total'; links = links' })
@@ -37,15 +38,15 @@ module _ (archive : List ℕ) (p k : ℕ) (list : List ℤ) where
   unfolding settle ◌>>=◌
   not_settled n e = rw e
 
-  pub settles_refused : (n : ℕ) → settled archive p k ≡ refused n → Settles archive p k list list (answered (answer.Refused n))
-  settles_refused n e = by_outcome (refused n) list _ (not_settled n e) refl refl
+  pub settles_refused : (e : Refusal) → settled archive p k ≡ refused (number e) → Settles archive p k list list (answered (Err e))
+  settles_refused e i = by_outcome (refused (number e)) list _ (not_settled (number e) i) refl refl
 
   module _ (sheet : List ℕ) (m : Measure) (s : Stands (settled archive p k) sheet m) where
     no_place : length list < m.count → settle archive p k (length list) ≡ refused no_room
     unfolding settle ◌>>=◌ ◌>>◌ require
     no_place h = rw (s.is, lt-leb (count_of s.settlement) (length list) (omega (arith, s.counted)))
 
-    pub settles_short : length list < m.count → Settles archive p k list list (answered (answer.Refused no_room))
+    pub settles_short : length list < m.count → Settles archive p k list list (answered (Err NoRoom))
     settles_short h = by_outcome (refused no_room) list _ (no_place h) refl refl
 
     placed : m.count ≤ length list → settle archive p k (length list) ≡ given s.settlement
@@ -60,7 +61,7 @@ module _ (archive : List ℕ) (p k : ℕ) (list : List ℤ) where
       pub settles_given : (later : List ℤ) (count : ℕ) (total : WattHour) (links : ℕ)
           → later ≡ amounts_of m.direction m.denominator (take m.count sheet) ++ drop (length (take m.count sheet)) list
           → count ≡ m.count → total.0 ≡ sumℤ (amounts_of m.direction m.denominator (take m.count sheet)) → links ≡ m.links
-          → Settles archive p k list later (answered (answer.Given count total links))
+          → Settles archive p k list later (answered (Ok (record { count = count; total = total; links = links })))
       settles_given later count total links l c t k' =
           by_outcome (given s.settlement) later _ (placed h)
           (same_answer _ _ _ _ _ _ (c ∙ sym s.counted) (t ∙ ap sumℤ (sym amounts)) (k' ∙ sym s.links_are))
@@ -74,11 +75,3 @@ module _ (archive : List ℕ) (p k : ℕ) (list : List ℤ) where
           same_list =
               ap (λ (n : ℕ). amounts_of m.direction m.denominator (take m.count sheet) ++ drop n list) (sheet_length s room h ∙ sym s.counted)
               ∙ ap (λ (x : List ℤ). x ++ drop (count_of s.settlement) list) (sym amounts)
-
--- ---- by the answer of the tests
-
-module _ (archive : List ℕ) (p k : ℕ) (sheet : List ℕ) (x : Prepared) (h : Prepares (settled archive p k) sheet x) where
-  pub settles_unready : (list : List ℤ) (n r : ℕ) → x ≡ prepared.Refused n → r ≡ prepared_number x → Settles archive p k list list (answered (answer.Refused r))
-  settles_unready list n r e f =
-      let same : r ≡ n = f ∙ ap prepared_number e in
-      rw same (settles_refused archive p k list n (not_ready archive p k sheet x h n e))

@@ -1,2 +1,1 @@
 pub mod Namings
-pub mod Laws

@@ -2,26 +2,22 @@
 #![tactic(auto)]
 
 ghost use Rattle.std.specs.Prelude.{◌≡◌, ◌++◌, ◌+◌, ◌*◌, ◌≤◌, length};
+ghost use Rattle.rules.specs.Outcome.{number_of};
 ghost use Rattle.rules.specs.Archive.{record_at};
 ghost use Rattle.rules.specs.Links.{namers};
 ghost use Rattle.rules.specs.TakeBack.{only_place, taken_back};
 ghost use Rattle.rules.specs.Promises.{TakesBack};
-ghost use Rattle.takeback.specs.Namings.{holds_number, namers_in, met_at, naming_of, only_outcome, HasLast, Leaves};
+ghost use Rattle.rules.specs.Results.{outcome};
+ghost use Rattle.takeback.specs.Namings.{holds_number, namers_in, met_at, naming_of, HasLast, Leaves};
 
-use archive::Head;
-use record::Slot;
-use rules::refusal;
+use filing::Destination;
+use record::Link;
+use rules::Refusal;
 
 // ---- the links that name a record, by their value alone
 
-// The links met that name it: none or one, by its place in the archive, 0 for none, since no link stands there; or more.
-#[derive(Clone, Copy)]
-enum Naming {
-    Place(u64),
-    Several,
-}
-
-// Whether bytes 4-15 of record n, where all links stand, hold a number at all: in few records they do.
+// Whether bytes 4-15 of record n, where all links stand, hold a number at all: in few records they do. Three comparisons, as the book's
+// holds_number: any() over the three places would be longer by a closure with its own clauses.
 fn holds(archive: &[u8], n: u64, number: u64) -> bool
     requires { 32 * n + 32 ≤ length archive.now }
     ensures { result ≡ holds_number (record_at archive.now n) number }
@@ -29,112 +25,69 @@ fn holds(archive: &[u8], n: u64, number: u64) -> bool
     let a = record::link_of(archive, n, 4);
     let b = record::link_of(archive, n, 8);
     let c = record::link_of(archive, n, 12);
-    if a == number {
-        return true;
-    }
-    if b == number {
-        return true;
-    }
-    c == number
+    (a == number) | (b == number) | (c == number)
 }
 
-// The links of record n, behind those met before.
-fn naming_in(archive: &[u8], n: u64, named: u64, met: u64) -> Naming
+// The place of the one link that names a record, of those of record n and the one met before; or none. A second is refused.
+fn naming_in(archive: &[u8], n: u64, named: u64, met: Option<u64>) -> Result<Option<u64>, Refusal>
     requires { 32 * n + 32 ≤ length archive.now }
     ensures { result ≡ naming_of (met_at met ++ namers_in archive.now n named) }
 {
     let mut place = met;
-    let mut i: u64 = 0;
-    while i < record::MOST_LINKS {
-        let Slot::Link(at, _) = record::slot_at(archive, n, i) else {
-            break;
-        };
-        if record::link_of(archive, n, at as usize) == named {
-            if place != 0 {
-                return Naming::Several;
+    for &Link(at, _) in record::links_at(archive, n) {
+        if record::link_of(archive, n, at) == named {
+            if place.is_some() {
+                return Err(Refusal::LastNotNamedOnce);
             }
-            place = 32 * n + at;
+            place = Some(32 * n + at as u64);
         }
-        i += 1;
     }
-    Naming::Place(place)
+    Ok(place)
 }
 
-// The place of the one link that names a record, or 19.
-#[derive(Clone, Copy)]
-enum Only {
-    At(u64),
-    Refused(u64),
-}
-
-// Over the links of all used records; the second that names it ends the pass.
-fn only_link_to(archive: &[u8], used: u64, named: u64) -> Only
-    requires { 32 * used ≤ length archive.now }
-    ensures { only_outcome result ≡ only_place (namers archive.now used named) }
+// The place of the one link that names a record, over the links of all used records, or 19; the second that names it ends the pass. The head
+// stands before the loop, which is quicker without it.
+fn only_link_to(archive: &[u8], used: u64, named: u64) -> Result<u64, Refusal>
+    requires { (1 ≤ used) × (32 * used ≤ length archive.now) }
+    ensures { outcome result ≡ only_place (namers archive.now used named) }
 {
-    let mut met: u64 = 0;
-    let mut n: u64 = 0;
-    while n < used {
+    let mut met = naming_in(archive, 0, named, None)?;
+    for n in 1..used {
         if holds(archive, n, named) {
-            let Naming::Place(place) = naming_in(archive, n, named, met) else {
-                return Only::Refused(refusal::LAST_NOT_NAMED_ONCE);
-            };
-            met = place;
+            met = naming_in(archive, n, named, met)?;
         }
-        n += 1;
     }
-    if met == 0 {
-        return Only::Refused(refusal::LAST_NOT_NAMED_ONCE);
-    }
-    Only::At(met)
+    met.ok_or(Refusal::LastNotNamedOnce)
 }
 
 // ---- taking back
 
-// U and the place of the one link to the last record, or a refusal.
-#[derive(Clone, Copy)]
-enum Last {
-    Named(u64, u64),
-    Refused(u64),
-}
-
-// Every test, before a byte is written: 1, 19.
-fn find_last(archive: &[u8]) -> Last
+// The last record and the place of the one link to it. Every test, before a byte is written: 1, 19.
+fn find_last(archive: &[u8]) -> Result<Destination, Refusal>
     ensures { Leaves archive.now result }
 {
-    let used = match archive::read_head(archive) {
-        Head::Used(used) => used,
-        Head::Refused(number) => return Last::Refused(number),
-    };
+    let used = archive::read_head(archive)?;
     if used == 1 {
-        return Last::Refused(refusal::LAST_NOT_NAMED_ONCE);
+        return Err(Refusal::LastNotNamedOnce);
     }
-    match only_link_to(archive, used, used - 1) {
-        Only::At(place) => Last::Named(used, place),
-        Only::Refused(number) => Last::Refused(number),
-    }
+    let number = used - 1;
+    let place = only_link_to(archive, used, number)?;
+    Ok(Destination { number, place })
 }
 
 // The last record is cleared, the link to it zeroed, U lowered by 1.
-fn clear_last(archive: &mut [u8], used: u64, place: u64)
-    requires { HasLast archive.old used place }
-    ensures { archive.new ≡ taken_back archive.old used place }
+fn clear_last(archive: &mut [u8], last: Destination)
+    requires { HasLast archive.old (last.number + 1) last.place }
+    ensures { archive.new ≡ taken_back archive.old (last.number + 1) last.place }
 {
-    let last = used - 1;
-    writing::put_bytes(archive, 32 * last, &[0u8; 32]);
-    writing::put_word(archive, place, 0);
-    writing::put_word(archive, 4, last);
+    filing::write(archive, last, &[0; 32], 0, last.number);
 }
 
 // 1, 19; nothing is written before both have passed.
-pub fn take_back(archive: &mut [u8]) -> u64
-    ensures { TakesBack archive.old archive.new result }
+pub fn take_back(archive: &mut [u8]) -> Result<(), Refusal>
+    ensures { TakesBack archive.old archive.new (number_of (outcome result)) }
 {
-    match find_last(archive) {
-        Last::Refused(number) => number,
-        Last::Named(used, place) => {
-            clear_last(archive, used, place);
-            0
-        }
-    }
+    let last = find_last(archive)?;
+    clear_last(archive, last);
+    Ok(())
 }

@@ -1,13 +1,16 @@
 // The terms of a measure: what its plant and it say, from their own 32 bytes each, read once (documents 01, 'The archive', and 02, 1).
 #![tactic(auto)]
 
-ghost use Rattle.std.specs.Prelude.{◌≡◌, length};
+ghost use Rattle.std.specs.Prelude.{◌≡◌, pos, IfOk};
 ghost use Rattle.rules.specs.Terms.{technology_of, variant_of, plant_allowed, direction_of, execution_of, measure_allowed};
+ghost use Rattle.rules.specs.Numbers.{or_zero};
 ghost use Rattle.rules.specs.Settle.{admitted};
 ghost use Rattle.rules.specs.October.{bounding_of};
-ghost use Rattle.terms.specs.Meanings.{meaning, admitted_answer};
+ghost use Rattle.rules.specs.Results.{outcome_by};
+ghost use Rattle.terms.specs.Meanings.{meaning};
 
-use rules::{Bounding, Direction, Execution, Technology, Variant, refusal};
+use record::Record;
+use rules::{Bounding, Direction, Execution, Refusal, Technology, Variant};
 use units::{QuarterNumber, Watt};
 
 // Handed on as one value; nothing of plant and measure is read again.
@@ -18,139 +21,92 @@ pub struct Terms {
     pub variant: Variant,
     pub direction: Direction,
     pub execution: Execution,
-    // number of the first quarter, or 0 for a measure without a date
+    // number of the first quarter, or 0 for a measure without a date, as in the format and in the book
     pub first: QuarterNumber,
 }
 
 // ---- plant
 
-fn technology_of(plant: &[u8]) -> Technology
-    requires { length plant.now ≡ 32 }
+// The bytes are tested by plant_allowed and measure_allowed, as the book does it, and read by functions that always give an answer, as the
+// book's do: TryFrom<u8> would test them a second time.
+fn technology_of(plant: &Record) -> Technology
     ensures { result ≡ technology_of plant.now }
 {
-    if plant[1] == 1 {
-        return Technology::Wind;
+    match plant[1] {
+        1 => Technology::Wind,
+        2 => Technology::Solar,
+        _ => Technology::Other,
     }
-    if plant[1] == 2 {
-        return Technology::Solar;
-    }
-    Technology::Other
 }
 
-fn variant_of(plant: &[u8]) -> Variant
-    requires { length plant.now ≡ 32 }
+fn variant_of(plant: &Record) -> Variant
     ensures { result ≡ variant_of plant.now }
 {
-    if plant[2] == 1 {
-        return Variant::Spitz;
+    match plant[2] {
+        1 => Variant::Spitz,
+        _ => Variant::Pauschal,
     }
-    Variant::Pauschal
 }
 
 // What refusal 6 tests, in every technology and variant.
-fn plant_allowed(plant: &[u8]) -> bool
-    requires { length plant.now ≡ 32 }
+#[tactic(auto, unfolding(rules::specs::Terms::plant_allowed))]
+fn plant_allowed(plant: &Record) -> bool
     ensures { result ≡ plant_allowed plant.now }
 {
-    let technology = plant[1];
-    if technology < 1 {
-        return false;
-    }
-    if 3 < technology {
-        return false;
-    }
-    let variant = plant[2];
-    if variant < 1 {
-        return false;
-    }
-    if 2 < variant {
-        return false;
-    }
-    units::is_nominal_power(record::watt_at(plant, 16))
+    matches!(plant[1], 1..=3)
+        && matches!(plant[2], 1..=2)
+        && units::is_nominal_power(record::watt_at(plant, 16))
 }
 
 // ---- measure
 
-fn direction_of(measure: &[u8]) -> Direction
-    requires { length measure.now ≡ 32 }
+fn direction_of(measure: &Record) -> Direction
     ensures { result ≡ direction_of measure.now }
 {
-    if measure[1] == 1 {
-        return Direction::Positive;
+    match measure[1] {
+        1 => Direction::Positive,
+        _ => Direction::Negative,
     }
-    Direction::Negative
 }
 
-fn execution_of(measure: &[u8]) -> Execution
-    requires { length measure.now ≡ 32 }
+fn execution_of(measure: &Record) -> Execution
     ensures { result ≡ execution_of measure.now }
 {
-    if measure[2] == 1 {
-        return Execution::Requested;
+    match measure[2] {
+        1 => Execution::Requested,
+        2 => Execution::Tolerated,
+        _ => Execution::Fixed,
     }
-    if measure[2] == 2 {
-        return Execution::Tolerated;
-    }
-    Execution::Fixed
 }
 
 // What refusal 7 tests; positive redispatch exists for technology 3 only.
-fn measure_allowed(plant: &[u8], measure: &[u8]) -> bool
-    requires { (length plant.now ≡ 32) × (length measure.now ≡ 32) }
+#[tactic(auto, unfolding(rules::specs::Terms::measure_allowed))]
+fn measure_allowed(plant: &Record, measure: &Record) -> bool
     ensures { result ≡ measure_allowed plant.now measure.now }
 {
-    let direction = measure[1];
-    if direction < 1 {
-        return false;
-    }
-    if 2 < direction {
-        return false;
-    }
-    let execution = measure[2];
-    if execution < 1 {
-        return false;
-    }
-    if 3 < execution {
-        return false;
-    }
-    if direction == 2 {
-        return true;
-    }
-    plant[1] == 3
+    matches!(measure[1], 1..=2) && matches!(measure[2], 1..=3) && (measure[1] == 2 || plant[1] == 3)
 }
 
 // ---- both
 
-#[derive(Clone, Copy)]
-pub enum Admitted {
-    With(Terms),
-    Refused(u64),
-}
-
 // 6, then 7.
-pub fn admit(plant: &[u8], measure: &[u8]) -> Admitted
-    requires { (length plant.now ≡ 32) × (length measure.now ≡ 32) }
-    ensures { result ≡ admitted_answer (admitted plant.now measure.now) }
+pub fn admit(plant: &Record, measure: &Record) -> Result<Terms, Refusal>
+    ensures terms { outcome_by meaning result ≡ admitted plant.now measure.now }
+    ensures nominal { IfOk result (λ terms. terms.nominal.0 ≡ pos (or_zero terms.nominal.0)) }
 {
     if !plant_allowed(plant) {
-        return Admitted::Refused(refusal::BAD_PLANT);
+        return Err(Refusal::BadPlant);
     }
     if !measure_allowed(plant, measure) {
-        return Admitted::Refused(refusal::BAD_MEASURE);
+        return Err(Refusal::BadMeasure);
     }
-    let technology = technology_of(plant);
-    let variant = variant_of(plant);
-    let nominal = record::watt_at(plant, 16);
-    let direction = direction_of(measure);
-    let execution = execution_of(measure);
-    let first = QuarterNumber(record::link_at(measure, 16));
-    Admitted::With(Terms {
-        nominal,
-        technology,
-        variant,
-        direction,
-        execution,
-        first,
+    Ok(Terms {
+        nominal: record::watt_at(plant, 16),
+        technology: technology_of(plant),
+        variant: variant_of(plant),
+        direction: direction_of(measure),
+        execution: execution_of(measure),
+        first: QuarterNumber(record::link_at(measure, 16)),
     })
 }
 
@@ -160,24 +116,20 @@ pub fn admit(plant: &[u8], measure: &[u8]) -> Admitted
 const OCTOBER_2026: u64 = 937921;
 
 // What the readings of the measure's quarters bound. Its first quarter decides for all of them.
+#[tactic(auto, unfolding(rules::specs::October::bounding_of))]
 pub fn bounding_of(terms: Terms) -> Bounding
     ensures { result ≡ bounding_of (meaning terms) }
 {
     if terms.first.0 < OCTOBER_2026 {
         return Bounding::Unbounded;
     }
-    let technology = terms.technology;
-    let variant = terms.variant;
-    let direction = terms.direction;
-    match variant {
-        Variant::Spitz => Bounding::Unbounded,
-        Variant::Pauschal => match technology {
-            Technology::Wind => Bounding::ReferenceByBoth,
-            Technology::Solar => Bounding::Unbounded,
-            Technology::Other => match direction {
-                Direction::Positive => Bounding::LimitationByNonavailability,
-                Direction::Negative => Bounding::ReferenceByNonavailability,
-            },
-        },
+    match (terms.variant, terms.technology, terms.direction) {
+        (Variant::Spitz, _, _) => Bounding::Unbounded,
+        (Variant::Pauschal, Technology::Wind, _) => Bounding::ReferenceByBoth,
+        (Variant::Pauschal, Technology::Solar, _) => Bounding::Unbounded,
+        (Variant::Pauschal, Technology::Other, Direction::Positive) =>
+            Bounding::LimitationByNonavailability,
+        (Variant::Pauschal, Technology::Other, Direction::Negative) =>
+            Bounding::ReferenceByNonavailability,
     }
 }

@@ -1,144 +1,113 @@
-// Numbers in decimal digits, as bytes; the words of the program's lines (document 01, 'Calls on the archive').
+// The program's lines as bytes (document 01, 'Calls on the archive'), and the words that they are made of.
 #![tactic(auto)]
 
-ghost use Rattle.std.specs.Prelude.{◌≡◌, ◌∷◌, [], ◌+◌, ◌≤◌, ◌<◌, nat_abs, length};
-ghost use Rattle.rules.specs.Encoding.{put};
+ghost use Rattle.std.specs.Prelude.{◌≡◌, ◌∷◌, [], ◌+◌, ◌≤◌, ◌<◌, length};
 ghost use Rattle.rules.specs.Output.{decimal, signed_decimal, text_of, measure_line, quarter_line, refusal_line};
-ghost use Rattle.text.specs.Writes.{Writes};
+ghost use Rattle.text.specs.Writes.{HasRoom, Appends};
 
-pub fn put_byte(out: &mut [u8], at: usize, byte: u8) -> usize
-    requires { at < length out.old }
-    ensures { Writes out.old at (byte ∷ []) out.new result × (result ≤ at + 1) }
-{
-    out[at] = byte;
-    at + 1
+use itoa::{Buffer, Integer};
+
+// Text written into lent bytes from a place on: what is written ends before `end`.
+#[derive(Drop)]
+pub struct Text<'a> {
+    out: &'a mut [u8],
+    pub end: usize,
 }
 
-// ---- numbers
-
-// The count of a number's digits.
-fn width(n: u64) -> usize
-    ensures { (result ≡ length (decimal n)) × (result ≤ 20) }
-{
-    let mut digits = 1;
-    let mut rest = n;
-    while 10 <= rest {
-        digits += 1;
-        rest /= 10;
+impl<'a> Text<'a> {
+    pub fn at(out: &'a mut [u8], at: usize) -> Text<'a>
+        ensures { (result.out.ghost_name ≡ out.entry.ghost_name) × (result.out.now ≡ out.old) × (result.end ≡ at) }
+    {
+        Text { out, end: at }
     }
-    digits
-}
 
-// The digits from the last to the first, which stands at `at`.
-fn put_digits(out: &mut [u8], at: usize, end: usize, n: u64)
-    requires { (end ≡ at + length (decimal n)) × (end ≤ length out.old) }
-    ensures { out.new ≡ put out.old at (decimal n) }
-{
-    let mut i = end;
-    let mut rest = n;
-    while 10 <= rest {
-        i -= 1;
-        out[i] = 48 + (rest % 10) as u8;
-        rest /= 10;
+    pub fn byte(&mut self, byte: u8)
+        requires { HasRoom self.old 1 }
+        ensures { Appends self.old (byte ∷ []) 1 self.new }
+    {
+        self.out[self.end] = byte;
+        self.end += 1;
     }
-    out[at] = 48 + rest as u8;
-}
 
-pub fn put_decimal(out: &mut [u8], at: usize, n: u64) -> usize
-    requires { at + 20 ≤ length out.old }
-    ensures { Writes out.old at (decimal n) out.new result × (result ≤ at + 20) }
-{
-    let end = at + width(n);
-    put_digits(out, at, end, n);
-    end
-}
+    // ---- numbers in decimal digits, after a minus sign below zero
 
-// A number without its sign.
-pub fn magnitude(z: i64) -> u64
-    ensures { result ≡ nat_abs z }
-{
-    if z < 0 {
-        return (-1 - z) as u64 + 1;
+    fn digits<I: Integer>(&mut self, value: I)
+        requires { HasRoom self.old I.MAX_STR_LEN }
+        ensures { Appends self.old (I.text value) I.MAX_STR_LEN self.new }
+    {
+        let mut buffer = Buffer::new();
+        let digits = buffer.format(value).as_bytes();
+        writing::put_bytes(self.out, self.end as u64, digits);
+        self.end += digits.len();
     }
-    z as u64
-}
 
-// A minus sign below zero.
-fn put_signed(out: &mut [u8], at: usize, z: i64) -> usize
-    requires { at + 21 ≤ length out.old }
-    ensures { Writes out.old at (signed_decimal z) out.new result × (result ≤ at + 21) }
-{
-    let n = magnitude(z);
-    if z < 0 {
-        let first = put_byte(out, at, b'-');
-        return put_decimal(out, first, n);
+    pub fn decimal(&mut self, n: u64)
+        requires { HasRoom self.old 20 }
+        ensures { Appends self.old (decimal n) 20 self.new }
+    {
+        self.digits(n);
     }
-    put_decimal(out, at, n)
-}
 
-// ---- words of a line, each after a space
+    // ---- words of a line, each after a space: a number's and an amount's by their own names, since a line has both
 
-const SPACE: u8 = b' ';
+    fn word<I: Integer>(&mut self, value: I)
+        requires { HasRoom self.old (1 + I.MAX_STR_LEN) }
+        ensures { Appends self.old (32 ∷ I.text value) (1 + I.MAX_STR_LEN) self.new }
+    {
+        self.byte(b' ');
+        self.digits(value);
+    }
 
-pub fn put_number(out: &mut [u8], at: usize, n: u64) -> usize
-    requires { at + 21 ≤ length out.old }
-    ensures { Writes out.old at (32 ∷ decimal n) out.new result × (result ≤ at + 21) }
-{
-    let first = put_byte(out, at, SPACE);
-    put_decimal(out, first, n)
-}
+    pub fn number(&mut self, n: u64)
+        requires { HasRoom self.old 21 }
+        ensures { Appends self.old (32 ∷ decimal n) 21 self.new }
+    {
+        self.word(n);
+    }
 
-pub fn put_amount(out: &mut [u8], at: usize, z: i64) -> usize
-    requires { at + 22 ≤ length out.old }
-    ensures { Writes out.old at (32 ∷ signed_decimal z) out.new result × (result ≤ at + 22) }
-{
-    let first = put_byte(out, at, SPACE);
-    put_signed(out, first, z)
-}
+    pub fn amount(&mut self, z: i64)
+        requires { HasRoom self.old 21 }
+        ensures { Appends self.old (32 ∷ signed_decimal z) 21 self.new }
+    {
+        self.word(z);
+    }
 
-// The program's lines, as bytes (document 01, 'Calls on the archive').
+    // ---- lines
 
-// M p k count total links.
-pub fn put_measure(
-    out: &mut [u8],
-    at: usize,
-    p: u64,
-    k: u64,
-    count: u64,
-    total: i64,
-    links: u64,
-) -> usize
-    requires { at + 108 ≤ length out.old }
-    ensures { Writes out.old at (text_of (measure_line p k count total links)) out.new result × (result ≤ at + 108) }
-{
-    let first = put_byte(out, at, b'M');
-    let a = put_number(out, first, p);
-    let b = put_number(out, a, k);
-    let c = put_number(out, b, count);
-    let d = put_amount(out, c, total);
-    let e = put_number(out, d, links);
-    put_byte(out, e, b'\n')
-}
+    // M p k count total links.
+    pub fn measure(&mut self, p: u64, k: u64, count: u64, total: i64, links: u64)
+        requires { HasRoom self.old 108 }
+        ensures { Appends self.old (text_of (measure_line p k count total links)) 108 self.new }
+    {
+        self.byte(b'M');
+        self.number(p);
+        self.number(k);
+        self.number(count);
+        self.amount(total);
+        self.number(links);
+        self.byte(b'\n');
+    }
 
-// Q place amount.
-pub fn put_quarter(out: &mut [u8], at: usize, place: u64, amount: i64) -> usize
-    requires { at + 108 ≤ length out.old }
-    ensures { Writes out.old at (text_of (quarter_line place amount)) out.new result × (result ≤ at + 108) }
-{
-    let first = put_byte(out, at, b'Q');
-    let a = put_number(out, first, place);
-    let b = put_amount(out, a, amount);
-    put_byte(out, b, b'\n')
-}
+    // Q place amount.
+    pub fn quarter(&mut self, place: u64, amount: i64)
+        requires { HasRoom self.old 108 }
+        ensures { Appends self.old (text_of (quarter_line place amount)) 108 self.new }
+    {
+        self.byte(b'Q');
+        self.number(place);
+        self.amount(amount);
+        self.byte(b'\n');
+    }
 
-// E p k number.
-pub fn put_refusal(out: &mut [u8], at: usize, p: u64, k: u64, number: u64) -> usize
-    requires { at + 108 ≤ length out.old }
-    ensures { Writes out.old at (text_of (refusal_line p k number)) out.new result × (result ≤ at + 108) }
-{
-    let first = put_byte(out, at, b'E');
-    let a = put_number(out, first, p);
-    let b = put_number(out, a, k);
-    let c = put_number(out, b, number);
-    put_byte(out, c, b'\n')
+    // E p k number.
+    pub fn refusal(&mut self, p: u64, k: u64, number: u64)
+        requires { HasRoom self.old 108 }
+        ensures { Appends self.old (text_of (refusal_line p k number)) 108 self.new }
+    {
+        self.byte(b'E');
+        self.number(p);
+        self.number(k);
+        self.number(number);
+        self.byte(b'\n');
+    }
 }

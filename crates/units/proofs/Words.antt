@@ -6,6 +6,8 @@ use native.Mathlib.Omega.{arith}
 use borrow.Author.Tests.{lt-ltb, ltb-false, le-leb, lt-leb, leb-true}
 use lib.Dec.{leb, ltb}
 use lib.IntN.{pos}
+use mir.Syntax.{w32}
+use mir.Val.{to_z}
 use Rattle.rules.specs.Numbers.{within, or_zero}
 use Rattle.rules.specs.Archive.{twos}
 
@@ -24,3 +26,8 @@ module _ (high w : ℕ) (h : high < 2 ^ 31) (k : w < 2 ^ 32) where
   pub word_natural : within (pos 0) (pos high) (twos w) ≡ true → (w ≡ or_zero (twos w)) × (w ≤ high)
   unfolding twos
   word_natural e = let l : w ≤ high = leb-true w high (word_within ∙ e) in (rw (lt-ltb w (2 ^ 31) (omega arith)), l)
+
+-- a word's own signed number
+pub word_signed : (w : ℕ) → w < 2 ^ 32 → to_z w32 w ≡ twos w
+unfolding twos
+word_signed w k = rw (lt-ltb w (2 ^ 32) k)

@@ -4,7 +4,6 @@
 
 ghost use Rattle.std.specs.Prelude.{◌≡◌, true, ◌≤◌, ◌<◌, ◌^◌, ltb, pos};
 ghost use Rattle.std.proofs.Math.IntN.{sub_ℕ};
-ghost use Rattle.std.specs.Int.Signed.{le_z};
 ghost use Rattle.rules.specs.Numbers.{or_zero, within, smaller, larger};
 ghost use Rattle.rules.specs.Archive.{twos};
 ghost use Rattle.rules.specs.Terms.{is_power, is_nominal_power, is_curve_power, is_speed, is_irradiance};
@@ -14,28 +13,23 @@ use rules::Direction;
 
 // ---- power
 
-// In W.
-#[derive(Clone, Copy)]
+// In W. In range or not, since a field is read before it is tested: so the range is a clause where it is asked for, and no invariant. A word of
+// four bytes is a u64 below 2^32 here, as record::link_at gives it: a u32 would ask more of callers.
+#[derive(Clone, Copy, PartialEq, Eq, PartialOrd, Ord)]
 pub struct Watt(pub i64);
 
-// A field in two's complement: (word + 2^31) mod 2^32 is its number raised by 2^31.
+// A field in two's complement.
 pub fn watt_of(word: u64) -> Watt
     requires { word < 2 ^ 32 }
     ensures { result.0 ≡ twos word }
 {
-    Watt(((word + 2147483648) % 4294967296) as i64 - 2147483648)
-}
-
-fn is_at_most(a: Watt, b: Watt) -> bool
-    ensures { result ≡ le_z a.0 b.0 }
-{
-    a.0 <= b.0
+    Watt((word as u32).cast_signed() as i64)
 }
 
 fn is_within(low: Watt, high: Watt, a: Watt) -> bool
     ensures { result ≡ within low.0 high.0 a.0 }
 {
-    is_at_most(low, a) & is_at_most(a, high)
+    (low..=high).contains(&a)
 }
 
 // Measured power, limit and plan (01, 'From readings to exact fractions').
@@ -58,17 +52,21 @@ pub fn is_curve_power(a: Watt) -> bool
 }
 
 // For the limitation value (001, 3.1).
+#[tactic(auto, unfolding(rules::specs::Numbers::smaller))]
 pub fn smaller(a: Watt, b: Watt) -> Watt
     ensures { result.0 ≡ smaller a.0 b.0 }
 {
-    if is_at_most(a, b) { a } else { b }
+    a.min(b)
 }
 
+#[tactic(auto, unfolding(rules::specs::Numbers::larger))]
 pub fn larger(a: Watt, b: Watt) -> Watt
     ensures { result.0 ≡ larger a.0 b.0 }
 {
-    if is_at_most(a, b) { b } else { a }
+    a.max(b)
 }
+
+// The three that follow are functions and not From, which asks nothing of its caller: not every power fits, and none of them may fail.
 
 // A power that isn't below zero, as nominal and curve power are.
 pub fn unsigned(a: Watt) -> u64
@@ -96,10 +94,13 @@ pub fn lowered(n: u64, by: u64) -> Watt
 
 // ---- speed
 
+// The test of a speed's word and its reading are one comparison and one constructor, as an irradiance's are: a trait for both would be longer.
+
 // Wind speed in tenths of m/s.
-#[derive(Clone, Copy)]
+#[derive(Clone, Copy, PartialEq, Eq, PartialOrd, Ord)]
 pub struct Speed(pub u64);
 
+#[tactic(auto, using(crate::proofs::Words::word_within))]
 pub fn is_speed(word: u64) -> bool
     requires { word < 2 ^ 32 }
     ensures { result ≡ is_speed (twos word) }
@@ -107,6 +108,7 @@ pub fn is_speed(word: u64) -> bool
     word <= 1000
 }
 
+#[tactic(auto, using(crate::proofs::Words::word_natural))]
 pub fn speed_of(word: u64) -> Speed
     requires word_bound { word < 2 ^ 32 }
     requires word_value { is_speed (twos word) ≡ true }
@@ -115,18 +117,13 @@ pub fn speed_of(word: u64) -> Speed
     Speed(word)
 }
 
-pub fn is_below(a: Speed, b: Speed) -> bool
-    ensures { result ≡ ltb a.0 b.0 }
-{
-    a.0 < b.0
-}
-
 // ---- irradiance
 
 // In W/m².
-#[derive(Clone, Copy)]
+#[derive(Clone, Copy, PartialEq, Eq, PartialOrd, Ord)]
 pub struct Irradiance(pub u64);
 
+#[tactic(auto, using(crate::proofs::Words::word_within))]
 pub fn is_irradiance(word: u64) -> bool
     requires { word < 2 ^ 32 }
     ensures { result ≡ is_irradiance (twos word) }
@@ -134,6 +131,7 @@ pub fn is_irradiance(word: u64) -> bool
     word <= 2000
 }
 
+#[tactic(auto, using(crate::proofs::Words::word_natural))]
 pub fn irradiance_of(word: u64) -> Irradiance
     requires word_bound { word < 2 ^ 32 }
     requires word_value { is_irradiance (twos word) ≡ true }
@@ -145,7 +143,7 @@ pub fn irradiance_of(word: u64) -> Irradiance
 // ---- energy
 
 // In Wh.
-#[derive(Clone, Copy)]
+#[derive(Clone, Copy, PartialEq, Eq, PartialOrd, Ord)]
 pub struct WattHour(pub i64);
 
 // An amount with its sign, minus for the positive direction (01, 'Amounts').
@@ -162,9 +160,9 @@ pub fn booked(direction: Direction, amount: u64) -> WattHour
 // ---- time
 
 // Number of a day: 1 is 1 January 2000 (document 02, 1).
-#[derive(Clone, Copy)]
+#[derive(Clone, Copy, PartialEq, Eq, PartialOrd, Ord)]
 pub struct DayNumber(pub u64);
 
 // Number of a quarter-hour: 1 is 1 January 2000, 0:00, in UTC+1.
-#[derive(Clone, Copy)]
+#[derive(Clone, Copy, PartialEq, Eq, PartialOrd, Ord)]
 pub struct QuarterNumber(pub u64);

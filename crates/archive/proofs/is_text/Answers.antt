@@ -6,4 +6,4 @@ use Rattle.archive.proofs.is_text.Goals as goal
 
 pub returns : goal.returns
 returns c =
-    ap (λ (n : ℕ). eqb n 1112686913) c.link_at.ensures.0 ∙ text_is c.args.r.now (λ i. (c.shared_slice_known-1.given i).fits)
+    ap (λ (n : ℕ). eqb n 1112686913) c.link_at.ensures.0 ∙ text_is c.args.r.now c.fits-r

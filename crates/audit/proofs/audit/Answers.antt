@@ -1,37 +1,37 @@
-use mathlib.Core.Path.{sym, ◌∙◌}
-use mathlib.Core.Bool.{true, false}
-use Rattle.rules.proofs.AppendSteps.{used_within}
-use Rattle.archive.proofs.Laws.{opened, unopened}
+use Rattle.std.proofs.Common.{true, false, sym, ◌∙◌, ap}
+use Rattle.std.proofs.lemmas.Result.{err_from_is_err_and}
+use Rattle.rules.specs.Outcome.{number_of, require}
+use Rattle.rules.proofs.AuditSteps.{audit_no_head, audit_stops}
+use Rattle.archive.proofs.Laws.{opened}
 use Rattle.audit.specs.Marks.{no_marks}
-use Rattle.audit.proofs.Marks.{no_marks_lem, marks_long, marks_enough}
-use Rattle.audit.proofs.Audits.{audit_unread, audit_refused, audit_done}
+use Rattle.audit.proofs.Audits.{audit_done}
 use Rattle.audit.proofs.audit.Goals as goal
 
-pub returns-in-Refused : goal.returns-in-Refused
-returns-in-Refused c =
-    let a = c.args in
-    audit_unread a.archive.now _ (unopened a.archive.now c.read_head.result c.read_head.ensures _ c.in-Refused.is)
+pub returns-in_err-used : goal.returns-in_err-used
+returns-in_err-used c =
+    let p = err_from_is_err_and c.from_residual.result c.from_residual.ensures.1 in
+    rw (p.1, p.2) (record { answers = ap number_of (sym (audit_no_head c.args.archive.now _ (sym c.in_err-used.ensures))) })
 
-pub check_records-number-requires : goal.check_records-number-requires
+pub invariant_of-records : goal.invariant_of-records
+invariant_of-records c =
+    let o = opened _ _ c.in_ok-used.ensures in
+    record { some = o.some; few = o.few; fits = o.within }
+
+pub returns-in_err-check : goal.returns-in_err-check
 unfolding no_marks
-check_records-number-requires c =
-    let w = used_within _ _ ((opened _ c.read_head.result c.read_head.ensures _ c.in-Used.is).is) in
-    (record { fits = w.1; few = w.2; size = no_marks_lem }, w.0)
+returns-in_err-check c =
+    let p = err_from_is_err_and c.from_residual-in_err-check.result c.from_residual-in_err-check.ensures.1 in
+    let r = rw c.in_err-check.was at c.check.ensures in
+    rw (p.1, p.2) (record { answers = ap number_of (sym (audit_stops c.args.archive.now _ (sym c.in_ok-used.ensures) _ (sym r.answers))) })
 
-pub returns-then-number-ne0 : goal.returns-then-number-ne0
-unfolding no_marks
-returns-then-number-ne0 c =
-    audit_refused _ _ ((opened _ c.read_head.result c.read_head.ensures _ c.in-Used.is).is) _ _ c.check_records-number.ensures c.if-number-ne0.true
-
-pub all_once-requires : goal.all_once-requires
-all_once-requires c =
-    let w = used_within _ _ ((opened _ c.read_head.result c.read_head.ensures _ c.in-Used.is).is) in
-    (w.0, marks_enough w.2 (sym (c.check_records-number.auto.marks ∙ marks_long)))
-
-pub returns-then-all_once : goal.returns-then-all_once
-unfolding no_marks
-returns-then-all_once c = (audit_done _ _ ((opened _ c.read_head.result c.read_head.ensures _ c.in-Used.is).is) _ _ c.check_records-number.ensures c.if-number-ne0.false true (sym c.if-all_once.true ∙ c.all_once.ensures))
+pub returns-then-not-all_once : goal.returns-then-not-all_once
+unfolding no_marks require
+returns-then-not-all_once c =
+    let r = rw c.in_ok-check.was at c.check.ensures in
+    record { answers = ap number_of (sym (audit_done c.args.archive.now _ (sym c.in_ok-used.ensures) r false (sym c.if-not-all_once.true ∙ c.all_once.ensures))) }
 
 pub returns : goal.returns
-unfolding no_marks
-returns c = (audit_done _ _ ((opened _ c.read_head.result c.read_head.ensures _ c.in-Used.is).is) _ _ c.check_records-number.ensures c.if-number-ne0.false false (sym c.if-all_once.false ∙ c.all_once.ensures))
+unfolding no_marks require
+returns c =
+    let r = rw c.in_ok-check.was at c.check.ensures in
+    record { answers = ap number_of (sym (audit_done c.args.archive.now _ (sym c.in_ok-used.ensures) r true (sym c.if-not-all_once.false ∙ c.all_once.ensures))) }

@@ -1,8 +1,8 @@
 use Rattle.audit.proofs.Marks.{mark_up, mark_stays}
 use Rattle.audit.proofs.mark.Goals as goal
 
-pub returns-then-m-lt2 : goal.returns-then-m-lt2
-returns-then-m-lt2 c = mark_up _ c.args.n c.if-m-lt2.true
+pub returns-then-marks-i-lt2 : goal.returns-then-marks-i-lt2
+returns-then-marks-i-lt2 c = mark_up _ c.args.n c.if-marks-i-lt2.true
 
-pub returns-else-m-lt2 : goal.returns-else-m-lt2
-returns-else-m-lt2 c = mark_stays _ c.args.n c.if-m-lt2.false
+pub returns-else-marks-i-lt2 : goal.returns-else-marks-i-lt2
+returns-else-marks-i-lt2 c = mark_stays _ c.args.n c.if-marks-i-lt2.false

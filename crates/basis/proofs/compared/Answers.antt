@@ -1,12 +1,16 @@
-use Rattle.basis.proofs.Answers.{compared_refused, compared_of}
+use Rattle.std.proofs.Common.{refl}
+use Rattle.std.proofs.lemmas.Result.{err_from_is_err_and}
+use Rattle.rules.specs.Outcome.{◌>>=◌}
 use Rattle.basis.proofs.compared.Goals as goal
 
-pub returns-in-Of : goal.returns-in-Of
-returns-in-Of c =
-    let a = c.args in
-    record { by = λ choice m. compared_of _ c.gather.result (c.gather.ensures.0 choice m) _ a.powers.now _ c.in-Of.is _ (c.on_sums.ensures.on a.powers.now choice m) }
+pub returns-in_err-gathered : goal.returns-in_err-gathered
+unfolding ◌>>=◌
+returns-in_err-gathered c =
+    let p = err_from_is_err_and c.from_residual.result c.from_residual.ensures.1 in
+    record { by = λ choice m. rw (p.1, p.2, ← c.in_err-gathered.ensures.gathers choice m) refl }
 
-pub returns-in-Refused : goal.returns-in-Refused
-returns-in-Refused c =
+pub returns : goal.returns
+unfolding ◌>>=◌
+returns c =
     let a = c.args in
-    record { by = λ choice m. compared_refused _ c.gather.result (c.gather.ensures.0 choice m) _ a.powers.now _ c.in-Refused.is }
+    record { by = λ choice m. rw (← c.in_ok-gathered.ensures.gathers choice m) (c.on_sums.ensures.on a.powers.now choice m) }

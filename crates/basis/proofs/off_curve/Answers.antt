@@ -1,4 +1,4 @@
-use mathlib.Core.Path.{refl, sym, ◌∙◌}
+use Rattle.std.proofs.Common.{refl, sym, ◌∙◌}
 use Rattle.place.specs.Places.{meant}
 use Rattle.basis.proofs.Pairings.{on_comparison, on_terms}
 use Rattle.basis.proofs.off_curve.Goals as goal

@@ -1,10 +1,6 @@
-use Prim.Native.Nat.{◌-◌}
 use Rattle.calendar.proofs.Days.{Counting}
 use Rattle.calendar.proofs.fourth_working_day.Given as goal
 
 -- the day that is looked for is still the same
 abbrev pub invariant-loop-passed : goal.invariant-loop-passed
-invariant-loop-passed l = Counting l.first.0 l.marks l.days l.others l.weekday l.passed
-
-abbrev pub decreases-loop-passed : goal.decreases-loop-passed
-decreases-loop-passed l = l.days - l.passed
+invariant-loop-passed l = Counting l.month.first.0 l.month.marks l.days l.others l.weekday l.passed

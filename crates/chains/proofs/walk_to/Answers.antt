@@ -1,27 +1,20 @@
-use mathlib.Core.Path.{◌∙◌}
-use Prim.Native.Nat.{◌-◌}
-use native.Mathlib.Omega.{arith}
-use Rattle.chains.proofs.Laws.{no_at, met, place_turn, place_none, reach_refused}
+use Rattle.std.proofs.lemmas.Result.{err_from_is_err_and}
+use Rattle.chains.proofs.Walking.{lies_starts}
+use Rattle.chains.proofs.Places.{nears_starts, nears_on, nears_refused}
 use Rattle.chains.proofs.walk_to.Goals as goal
 
-pub returns-in_default : goal.returns-in_default
-returns-in_default c =
-    let a = c.args in
-    reach_refused a.place _ _ _
-    (c.loop-n.invariant.0
-    ∙ place_none a.archive.now a.used a.kind c.loop-n.reached c.loop-n.link c.follow-answer.result c.follow-answer.ensures (no_at c.follow-answer.result c.in_default.not-At)
-    a.missing (a.place - c.loop-n.links))
-    c.refusal_of.ensures
+pub loop-step-init : goal.loop-step-init
+loop-step-init c =
+    let s = rw (← c.into_iter-step-iterator.ensures.into_iter_gives) at c.starting-step-items.ensures in
+    (lies_starts s c.requires, tt, nears_starts _ _ _ _ _ _ c.if-place-eq0.false s)
 
-pub link_of-link-requires : goal.link_of-link-requires
-link_of-link-requires c = let m = (met _ _ _ _ _ c.follow-answer.result c.follow-answer.ensures _ c.in-At.is) in omega arith
+pub returns-in_err-n : goal.returns-in_err-n
+returns-in_err-n c missing =
+    let p = err_from_is_err_and c.from_residual.result c.from_residual.ensures.1 in
+    let r = rw c.in_err-n.was at c.in-Some.ensures.steps in
+    rw (p.1, p.2) (nears_refused _ _ _ _ _ _ c.loop-step.invariant.2 r missing)
 
-pub loop-n-preserved : goal.loop-n-preserved
-loop-n-preserved c =
-    let a = c.args in (
-      c.loop-n.invariant.0
-          ∙ place_turn a.archive.now a.used a.kind c.loop-n.reached c.loop-n.link _ c.link_of-link.result (met _ _ _ _ _ c.follow-answer.result c.follow-answer.ensures _ c.in-At.is) c.link_of-link.ensures.0
-          a.missing a.place c.loop-n.links (omega arith),
-      omega arith,
-      omega arith,
-    )
+pub loop-step-preserved : goal.loop-step-preserved
+loop-step-preserved c =
+    let t = rw c.in_ok-n.was at c.in-Some.ensures.steps in
+    (c.in-Some.ensures.goes.keeps, tt, nears_on _ _ _ _ _ _ c.loop-step.invariant.2 t c.if-passed-place.false)

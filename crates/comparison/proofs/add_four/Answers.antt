@@ -11,24 +11,23 @@ returns-then-sums-ge4 c =
     let a = c.args in
     ((λ points t. four_full a.sums a.r.now (or_zero a.pn.0) points (omega arith)), grown_none c.requires.room)
 
-pub returns-then-not-in_power_range : goal.returns-then-not-in_power_range
-returns-then-not-in_power_range c =
+pub returns-in_err-measured : goal.returns-in_err-measured
+returns-in_err-measured c =
     let a = c.args in
-    let out = failed_test c.in_power_range.ensures (not_from_false _ c.if-not-in_power_range.true) in
-    ((λ points t. four_out a.sums a.r.now c.measured_of-measured.ensures out (or_zero a.pn.0) points (omega arith)), tt)
+    rw c.from_residual.ensures ((λ points t. four_out a.sums a.r.now c.in_err-measured.ensures (or_zero a.pn.0) points (omega arith)), tt)
 
 pub returns-then-power-least : goal.returns-then-power-least
 returns-then-power-least c =
     let least = c.unsigned-least.ensures in
     let a = c.args in
-    let m = measured c.measured_of-measured.ensures (met_test c.in_power_range.ensures (not_from_true _ c.if-not-in_power_range.false)) c.raised-power.result c.raised-power.ensures.0 in
+    let m = measured c.in_ok-measured.ensures c.raised-power.result c.raised-power.ensures.0 in
     ((λ points t. four_low a.sums a.r.now m (or_zero a.pn.0) points (omega arith) (omega arith)), grown_none c.requires.room)
 
 pub returns-then-not-is_speed : goal.returns-then-not-is_speed
 returns-then-not-is_speed c =
     let least = c.unsigned-least.ensures in
     let a = c.args in
-    let m = measured c.measured_of-measured.ensures (met_test c.in_power_range.ensures (not_from_true _ c.if-not-in_power_range.false)) c.raised-power.result c.raised-power.ensures.0 in
+    let m = measured c.in_ok-measured.ensures c.raised-power.result c.raised-power.ensures.0 in
     let out = failed_test c.is_speed.ensures (not_from_false _ c.if-not-is_speed.true) in
     ((λ points t. four_weather a.sums a.r.now m c.weather_of-word.ensures.0 (or_zero a.pn.0) points (omega arith) (omega arith) out), tt)
 
@@ -38,7 +37,7 @@ returns c =
     let least = c.unsigned-least.ensures in
     let few = c.if-sums-ge4.false in
     let a = c.args in
-    let m = measured c.measured_of-measured.ensures (met_test c.in_power_range.ensures (not_from_true _ c.if-not-in_power_range.false)) c.raised-power.result c.raised-power.ensures.0 in
+    let m = measured c.in_ok-measured.ensures c.raised-power.result c.raised-power.ensures.0 in
     let speed = met_test c.is_speed.ensures (not_from_true _ c.if-not-is_speed.false) in (
       (λ points t. four_used a.sums a.r.now m c.weather_of-word.ensures.0 (or_zero a.pn.0) points (omega arith) (omega arith) speed
           c.speed_of.ensures.0 (c.unsigned.ensures ∙ ap or_zero (read.is points t)) c.plus.ensures),

@@ -1,8 +1,6 @@
-use Rattle.correction.proofs.Splits.{down_is, toward_is}
+use native.Mathlib.Omega.{arith}
+use Rattle.correction.proofs.Splits.{split_held}
 use Rattle.correction.proofs.money_of.Goals as goal
 
-pub returns-then-rest-lt0 : goal.returns-then-rest-lt0
-returns-then-rest-lt0 c = down_is c.args.exact.0 c.struct_told-2-1.given.0.1 c.if-rest-lt0.true
-
 pub returns : goal.returns
-returns c = toward_is c.args.exact.0 c.struct_told-2-1.given.0.1 c.if-rest-lt0.false
+returns c = split_held c.args.exact.0 _ _ (omega arith) c.div_euclid.ensures c.rem_euclid.ensures.value (omega arith) (omega arith)

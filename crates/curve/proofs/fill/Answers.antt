@@ -2,17 +2,17 @@ use mathlib.Core.Path.{sym, ◌∙◌}
 use native.Mathlib.Omega.{arith}
 use lib.ListN.{length-set}
 use Rattle.curve.specs.Lines.{point}
-use Rattle.curve.proofs.Line.{on_from, on_until, line_power, line_next, power_room, power_low}
+use Rattle.curve.proofs.Line.{line_power, line_next, power_room, power_low}
 use Rattle.curve.proofs.Fills.{filled_turn, filled_done}
 use Rattle.curve.proofs.fill.Goals as goal
 
 pub overflow_sub-powers : goal.overflow_sub-powers
 overflow_sub-powers c =
-    power_room c.requires.1 c.loop-speed.speed c.loop-speed.invariant.from c.loop-speed-test.true c.loop-speed.invariant.line
+    power_room c.requires.1 c.loop-speed.speed c.loop-speed.auto.speed c.loop-speed-test.true c.loop-speed.invariant.line
 
 pub overflow_cast-powers : goal.overflow_cast-powers
 overflow_cast-powers c =
-    let low = power_low c.requires.1 c.loop-speed.speed c.loop-speed.invariant.from c.loop-speed-test.true c.loop-speed.invariant.line in
+    let low = power_low c.requires.1 c.loop-speed.speed c.loop-speed.auto.speed c.loop-speed-test.true c.loop-speed.invariant.line in
     omega arith
 
 pub loop-speed-preserved : goal.loop-speed-preserved
@@ -21,10 +21,8 @@ loop-speed-preserved c =
     record {
       same =
           c.loop-speed.invariant.same
-          ∙ filled_turn (point c.args.s0 c.args.p0) (point c.args.s1 c.args.p1) c.args.s1 c.loop-speed.speed _ c.loop-speed.powers h (line_power c.requires.1 c.loop-speed.speed c.loop-speed.invariant.from h c.loop-speed.invariant.line);
-      from = on_from c.loop-speed.invariant.from;
-      until = on_until h;
-      line = line_next c.requires.1 c.loop-speed.speed c.loop-speed.invariant.from h c.loop-speed.invariant.line;
+          ∙ filled_turn (point c.args.s0 c.args.p0) (point c.args.s1 c.args.p1) c.args.s1 c.loop-speed.speed _ c.loop-speed.powers h (line_power c.requires.1 c.loop-speed.speed c.loop-speed.auto.speed h c.loop-speed.invariant.line);
+      line = line_next c.requires.1 c.loop-speed.speed c.loop-speed.auto.speed h c.loop-speed.invariant.line;
       size = simp length-set c.loop-speed.invariant.size;
     }
 

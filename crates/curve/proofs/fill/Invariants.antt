@@ -1,4 +1,3 @@
-use Prim.Native.Nat.{◌-◌}
 use Rattle.curve.specs.Lines.{point}
 use Rattle.curve.proofs.Fills.{Filling}
 use Rattle.curve.proofs.fill.Given as goal
@@ -7,6 +6,3 @@ use Rattle.curve.proofs.fill.Given as goal
 abbrev pub invariant-loop-speed : goal.invariant-loop-speed
 invariant-loop-speed l =
     Filling (point l.s0 l.p0) (point l.s1 l.p1) l.initial.powers l.powers l.speed l.risen l.raised
-
-abbrev pub decreases-loop-speed : goal.decreases-loop-speed
-decreases-loop-speed l = l.s1 - l.speed

@@ -3,16 +3,10 @@ use Rattle.curve.proofs.Readings.{says}
 use Rattle.curve.proofs.power_at.Goals as goal
 
 pub returns-in-Below : goal.returns-in-Below
-returns-in-Below c =
-    let a = c.args in
-    says a.curve a.powers.now a.speed.0 c.read_curve-reading.result c.read_curve-reading.ensures c.requires Below c.in-Below.is
+returns-in-Below c = says _ _ _ Below c.in-Below.ensures c.requires
 
 pub returns-in-On : goal.returns-in-On
-returns-in-On c =
-    let a = c.args in
-    says a.curve a.powers.now a.speed.0 c.read_curve-reading.result c.read_curve-reading.ensures c.requires (On c.in-On.power) c.in-On.is
+returns-in-On c = says _ _ _ (On c.in-On.power) c.in-On.ensures c.requires
 
 pub returns-in-Above : goal.returns-in-Above
-returns-in-Above c =
-    let a = c.args in
-    says a.curve a.powers.now a.speed.0 c.read_curve-reading.result c.read_curve-reading.ensures c.requires Above c.in-Above.is
+returns-in-Above c = says _ _ _ Above c.in-Above.ensures c.requires

@@ -1,34 +1,20 @@
-use mathlib.Core.Path.{◌≡◌, refl, sym, ◌∙◌, ap}
-use Prim.Native.Nat.{ℕ}
-use native.Mathlib.Omega.{arith}
-use lib.ListN.{drop}
+use mathlib.Core.Path.{◌∙◌, ap}
 use Rattle.rules.specs.Reference.{factor_rows, first_for, plant_factor}
-use Rattle.factor.proofs.Rows.{row_taken, row_left}
+use Rattle.factor.proofs.Rows.{looked_none, row_taken, row_left, looked_all}
 use Rattle.factor.proofs.plant_factor.Goals as goal
 
-pub loop-i-init : goal.loop-i-init
+pub loop-r-init : goal.loop-r-init
 unfolding factor_rows
-loop-i-init c = (omega arith, refl)
+loop-r-init c = looked_none _ _ (rw (c.into_iter-r-iterator.ensures.into_iter_gives, c.rev-r-items.ensures.source) c.iter.ensures.rest)
 
-pub loop-i-preserved-then-is_for : goal.loop-i-preserved-then-is_for
-unfolding factor_rows
-loop-i-preserved-then-is_for c = (
-  omega arith,
-  row_taken c.is_summer-summer.result c.args.quarter c.loop-i.i c.loop-i-test.true c.loop-i.invariant.0 (sym c.is_for.ensures ∙ c.if-is_for.true),
-)
+pub loop-r-preserved-then-is_for : goal.loop-r-preserved-then-is_for
+loop-r-preserved-then-is_for c = row_taken _ _ c.loop-r.invariant c.in-Some.r.now _ c.in-Some.ensures.steps c.if-is_for.ensures
 
-pub loop-i-preserved : goal.loop-i-preserved
-unfolding factor_rows
-loop-i-preserved c = (
-  omega arith,
-  c.loop-i.invariant.1
-      ∙ row_left c.is_summer-summer.result c.args.quarter c.loop-i.i c.loop-i-test.true c.loop-i.invariant.0 (sym c.is_for.ensures ∙ c.if-is_for.false),
-)
+pub loop-r-preserved : goal.loop-r-preserved
+loop-r-preserved c = row_left _ _ c.loop-r.invariant c.in-Some.r.now _ c.in-Some.ensures.steps c.if-is_for.ensures
 
 pub returns : goal.returns
 unfolding plant_factor
 returns c =
-    let quarter = c.args.quarter in
-    let z : c.loop-i.i ≡ 0 = omega arith in
-    c.loop-i.invariant.1 ∙ ap (λ (n : ℕ). first_for c.is_summer-summer.result quarter (drop n factor_rows)) z
-    ∙ ap (λ t. first_for t quarter factor_rows) c.is_summer-summer.ensures
+    looked_all _ _ c.loop-r.invariant c.in-None.ensures.steps.0
+    ∙ ap (λ t. first_for t c.args.quarter factor_rows) c.is_summer-summer.ensures

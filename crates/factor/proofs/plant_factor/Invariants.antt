@@ -1,11 +1,5 @@
-use mathlib.Core.Path.{◌≡◌}
-use Prim.Native.Nat.{◌≤◌}
-use lib.ListN.{drop}
-use Rattle.rules.specs.Reference.{factor_rows, first_for}
+use Rattle.factor.proofs.Rows.{Looked}
 use Rattle.factor.proofs.plant_factor.Given as goal
 
-abbrev pub invariant-loop-i : goal.invariant-loop-i
-invariant-loop-i l = (l.i ≤ 8) × (l.factor ≡ first_for l.summer l.quarter (drop l.i factor_rows))
-
-abbrev pub decreases-loop-i : goal.decreases-loop-i
-decreases-loop-i l = l.i
+abbrev pub invariant-loop-r : goal.invariant-loop-r
+invariant-loop-r l = Looked l.summer l.quarter l.factor l.r-iterator.iter.rest.now

@@ -1,20 +1,27 @@
-use mathlib.Core.Path.{sym, ◌∙◌}
-use native.Mathlib.Omega.{arith}
-use Rattle.rules.proofs.Places.{links_within, links_few}
-use Rattle.record.proofs.Slots.{here, past, past_all}
-use Rattle.filing.proofs.Links.{new_none, new_linked}
+use Rattle.std.proofs.Common.{sym, ◌∙◌, ap, arith}
+use Rattle.rules.specs.Filing.{new_allowed}
+use Rattle.rules.proofs.Places.{links_within}
+use Rattle.record.proofs.Linked.{here, past}
+use Rattle.filing.proofs.Links.{new_none, new_linked, new_on}
 use Rattle.filing.proofs.new_allowed.Goals as goal
 
 pub link_at-requires : goal.link_at-requires
-link_at-requires c = let w = links_within _ _ (here _ _ c.slot_of.ensures c.in-Link.is).has in omega arith
+link_at-requires c =
+    let h = here _ c.links_of-at-items.ensures _ c.loop-at-test.true in
+    let w = links_within c.in-Ok.record.now _ h.has in
+    omega arith
 
 pub returns-then-link_at-ne0 : goal.returns-then-link_at-ne0
 returns-then-link_at-ne0 c =
-    sym (new_linked c.loop-i.invariant.0 (here _ _ c.slot_of.ensures c.in-Link.is) (λ e. c.if-link_at-ne0.true (c.link_at.ensures.0 ∙ e)))
+    ap new_allowed (sym c.in-Ok.ensures.1.same)
+    ∙ new_linked c.loop-at.invariant (here _ c.links_of-at-items.ensures _ c.loop-at-test.true) (λ e. c.if-link_at-ne0.true (c.link_at.ensures.0 ∙ e))
 
-pub returns-after-loop-i : goal.returns-after-loop-i
-returns-after-loop-i c = sym (new_none c.loop-i.invariant.0 (past_all _ (links_few _) c.loop-i-test.false))
+pub loop-at-preserved : goal.loop-at-preserved
+loop-at-preserved c =
+    new_on c.loop-at.invariant (here _ c.links_of-at-items.ensures _ c.loop-at-test.true) (sym c.link_at.ensures.0 ∙ c.if-link_at-ne0.false)
 
-pub returns-in_default : goal.returns-in_default
-returns-in_default c =
-    sym (new_none c.loop-i.invariant.0 (past _ _ c.slot_of.ensures c.in_default.is))
+pub returns : goal.returns
+returns c = (
+  ap new_allowed (sym c.in-Ok.ensures.1.same) ∙ new_none c.loop-at.invariant (past _ c.links_of-at-items.ensures _ c.loop-at-test.false),
+  c.in-Ok.ensures.1.same,
+)

@@ -1,37 +1,81 @@
-use native.Mathlib.Omega.{arith}
-use Rattle.rules.proofs.Sound.{used_head}
-use Rattle.archive.proofs.Laws.{opened, unopened}
-use Rattle.place.proofs.Laws.{walked, unwalked, find_unopened, find_refused, find_under}
+use Rattle.std.proofs.Common.{sym, refl, arith}
+use Rattle.std.proofs.lemmas.Result.{err_from_is_err_and}
+use Rattle.rules.specs.Outcome.{◌>>=◌}
+use Rattle.rules.specs.Settle.{place_of}
+use Rattle.rules.proofs.Bounds.{admitted_low}
+use Rattle.archive.proofs.Laws.{opened}
 use Rattle.place.proofs.find.Goals as goal
 
-pub returns-in_default : goal.returns-in_default
-returns-in_default c =
-    let a = c.args in
-    find_unopened a.archive.now a.p a.k _ (unopened a.archive.now _ c.read_head.ensures _ c.in_default.is)
+pub returns-in_err-used-clause-place : goal.returns-in_err-used-clause-place
+unfolding place_of ◌>>=◌
+returns-in_err-used-clause-place c =
+    let p = err_from_is_err_and c.from_residual.result c.from_residual.ensures.1 in
+    rw (p.1, p.2, ← c.in_err-used.ensures) refl
 
-pub plant_at-to_plant-requires : goal.plant_at-to_plant-requires
-plant_at-to_plant-requires c =
-    let a = c.args in
-    let o = opened a.archive.now _ c.read_head.ensures _ c.in-Used.is in
-    ((used_head a.archive.now _ o.is).some, o.within)
+pub reach-requires-clause-held : goal.reach-requires-clause-held
+reach-requires-clause-held c = let h = opened _ _ c.in_ok-used.ensures in omega arith
 
-pub returns-in_default-to_plant : goal.returns-in_default-to_plant
-returns-in_default-to_plant c =
-    let a = c.args in
-    let o = opened a.archive.now _ c.read_head.ensures _ c.in-Used.is in
-    find_refused a.archive.now a.p a.k _ o.is _ _
-    (unwalked a.p _ c.plant_at-to_plant.result _ c.plant_at-to_plant.ensures c.in_default-to_plant.is) c.number.ensures
+pub returns-in_err-plant-clause-place : goal.returns-in_err-plant-clause-place
+unfolding place_of ◌>>=◌
+returns-in_err-plant-clause-place c =
+    let p = err_from_is_err_and c.from_residual-in_err-plant.result c.from_residual-in_err-plant.ensures.1 in
+    rw (p.1, p.2, ← c.in_ok-used.ensures, ← c.in_err-plant.ensures.found) refl
 
-pub place_under-requires : goal.place_under-requires
-place_under-requires c =
-    let a = c.args in
-    let o = opened a.archive.now _ c.read_head.ensures _ c.in-Used.is in
-    let w = walked a.archive.now _ _ _ a.p 0 _ c.plant_at-to_plant.result _ _ c.plant_at-to_plant.ensures c.in-At.is in
+pub reach-requires-2-clause-held : goal.reach-requires-2-clause-held
+reach-requires-2-clause-held c =
+    let h = opened _ _ c.in_ok-used.ensures in
+    let m = c.in_ok-plant.ensures.rises in
     omega arith
 
-pub returns : goal.returns
-returns c =
-    let a = c.args in
-    let o = opened a.archive.now _ c.read_head.ensures _ c.in-Used.is in
-    let w = walked a.archive.now _ _ _ a.p 0 _ c.plant_at-to_plant.result _ _ c.plant_at-to_plant.ensures c.in-At.is in
-    find_under a.archive.now a.p a.k _ o.is _ _ _ w.is w.count c.place_under.ensures
+pub returns-in_err-measure-clause-place : goal.returns-in_err-measure-clause-place
+unfolding place_of ◌>>=◌
+returns-in_err-measure-clause-place c =
+    let p = err_from_is_err_and c.from_residual-in_err-measure.result c.from_residual-in_err-measure.ensures.1 in
+    rw (p.1, p.2, ← c.in_ok-used.ensures, ← c.in_ok-plant.ensures.found, ← c.in_err-measure.ensures.found) refl
+
+pub record_at-of_plant-requires : goal.record_at-of_plant-requires
+record_at-of_plant-requires c =
+    let h = opened _ _ c.in_ok-used.ensures in
+    let m = c.in_ok-plant.ensures.rises in
+    omega arith
+
+pub record_at-of_measure-requires : goal.record_at-of_measure-requires
+record_at-of_measure-requires c =
+    let h = opened _ _ c.in_ok-used.ensures in
+    let m = c.in_ok-measure.ensures.rises in
+    omega arith
+
+pub returns-in_err-terms-clause-place : goal.returns-in_err-terms-clause-place
+unfolding place_of ◌>>=◌
+returns-in_err-terms-clause-place c =
+    let p = err_from_is_err_and c.from_residual-in_err-terms.result c.from_residual-in_err-terms.ensures.1 in
+    let t = rw (c.record_at-of_plant.ensures, c.record_at-of_measure.ensures) at c.in_err-terms.ensures.terms in
+    rw (p.1, p.2, ← c.in_ok-used.ensures, ← c.in_ok-plant.ensures.found, ← c.in_ok-measure.ensures.found, ← t) refl
+
+pub overflow_add-result : goal.overflow_add-result
+overflow_add-result c =
+    let h = opened _ _ c.in_ok-used.ensures in
+    let m = c.in_ok-plant.ensures.rises in
+    let n = c.in_ok-measure.ensures.rises in
+    record { fits = omega (arith, m.0, m.1, n.0, n.1) }
+
+pub returns-clause-place : goal.returns-clause-place
+unfolding place_of ◌>>=◌
+returns-clause-place c =
+    let t = rw (c.record_at-of_plant.ensures, c.record_at-of_measure.ensures) at c.in_ok-terms.ensures.terms in
+    rw (← c.in_ok-used.ensures, ← c.in_ok-plant.ensures.found, ← c.in_ok-measure.ensures.found, ← t) refl
+
+pub returns-clause-lies : goal.returns-clause-lies
+returns-clause-lies c =
+    let h = opened _ _ c.in_ok-used.ensures in
+    let m = c.in_ok-plant.ensures.rises in
+    let n = c.in_ok-measure.ensures.rises in
+    record {
+      room = h.within;
+      few = h.few;
+      plant_used = m.1;
+      measure_used = n.1;
+      links_few = omega (arith, m.0, m.1, n.0, n.1);
+      nominal_natural = c.in_ok-terms.ensures.nominal;
+      nominal_low = (admitted_low _ _).of _ (sym c.in_ok-terms.ensures.terms);
+    }

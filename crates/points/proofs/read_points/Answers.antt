@@ -1,51 +1,37 @@
-use mathlib.Core.Path.{◌∙◌, ap}
-use mathlib.Core.List.{List}
-use Prim.Native.Nat.{ℕ}
-use Rattle.rules.specs.Archive.{point_kind}
-use Rattle.rules.proofs.Chains.{record_part}
-use Rattle.rules.proofs.Parts.{start_fits, end_fits, end_within}
-use Rattle.chains.proofs.Laws.{met, link_nearer, no_at}
-use Rattle.chains.proofs.Walking.{walk_turns, walk_ends, walk_refused}
+use Rattle.std.proofs.Common.{List, ℕ, ◌∙◌, ap, arith}
+use Rattle.std.proofs.lemmas.Result.{err_from_is_err_and}
+use Rattle.chains.proofs.Walking.{walk_meets, walk_turns, walk_ends, walk_refused}
 use Rattle.points.specs.Steps.{walk, with_record}
-use Rattle.points.proofs.Points.{stepped}
 use Rattle.points.proofs.Walks.{kept_on, walk_answers, chain_denies}
 use Rattle.points.proofs.read_points.Goals as goal
 
-pub returns-in_default : goal.returns-in_default
-returns-in_default c =
+pub returns-in_err-n : goal.returns-in_err-n
+returns-in_err-n c =
     let a = c.args in
-    chain_denies a.archive.now a.place c.link_of-link.result c.link_of-link.ensures.0
-    (walk_refused stepped a.archive.now a.place.used point_kind c.loop-link.invariant.0 c.follow-answer.ensures (no_at c.follow-answer.result c.in_default.not-At)
-    c.loop-link-test.true)
-    c.refusal_of.ensures c.loop-link.powers
+    let p = err_from_is_err_and c.from_residual.result c.from_residual.ensures.1 in
+    let r = rw c.in_err-n.was at c.in-Some.ensures.steps in
+    rw (p.1, p.2)
+    (chain_denies a.archive.now a.place c.link_of-first.result c.link_of-first.ensures.0 (walk_refused _ _ _ _ _ _ _ c.loop-step.invariant.2 r))
 
-pub overflow_mul-i : goal.overflow_mul-i
-overflow_mul-i c = start_fits (met _ _ _ _ _ c.follow-answer.result c.follow-answer.ensures _ c.in-At.is).below c.requires.lies.few
+pub record_at-requires : goal.record_at-requires
+record_at-requires c =
+    let t = rw c.in_ok-n.was at c.in-Some.ensures.steps in
+    let m = walk_meets _ _ _ _ _ _ _ c.loop-step.invariant.2 t in
+    omega (arith, m.below, c.requires.lies.room)
 
-pub overflow_mul-i-in-loop-link : goal.overflow_mul-i-in-loop-link
-overflow_mul-i-in-loop-link c = start_fits (met _ _ _ _ _ c.follow-answer.result c.follow-answer.ensures _ c.in-At.is).below c.requires.lies.few
-
-pub overflow_add-i : goal.overflow_add-i
-overflow_add-i c = end_fits (met _ _ _ _ _ c.follow-answer.result c.follow-answer.ensures _ c.in-At.is).below c.requires.lies.few
-
-pub slice_bounds-read_point-end : goal.slice_bounds-read_point-end
-slice_bounds-read_point-end c = end_within (met _ _ _ _ _ c.follow-answer.result c.follow-answer.ensures _ c.in-At.is).below c.requires.lies.room
-
-pub loop-link-smaller : goal.loop-link-smaller
-loop-link-smaller c = let m = met _ _ _ _ _ c.follow-answer.result c.follow-answer.ensures _ c.in-At.is in link_nearer m.rises m.below
-
-pub loop-link-preserved : goal.loop-link-preserved
-loop-link-preserved c =
-    let m = met _ _ _ _ _ c.follow-answer.result c.follow-answer.ensures _ c.in-At.is in
-    let a = c.args in
-    let n = c.in-At.n in
-    let e = c.read_point-read.ensures ∙ ap (λ (x : List ℕ). with_record x (walk c.loop-link.read c.loop-link.powers)) (record_part a.archive.now n) in (
-      walk_turns stepped a.archive.now a.place.used point_kind c.loop-link.invariant.0 m c.link_of-link-in-loop-link.ensures.0 e,
-      kept_on _ c.loop-link.invariant.1 m.rises e c.read_point-read.auto.powers,
+pub loop-step-preserved : goal.loop-step-preserved
+loop-step-preserved c =
+    let t = rw c.in_ok-n.was at c.in-Some.ensures.steps in
+    let m = walk_meets _ _ _ _ _ _ _ c.loop-step.invariant.2 t in
+    let e = c.read_point-read.ensures ∙ ap (λ (r : List ℕ). with_record r (walk c.loop-step.read c.loop-step.powers)) c.record_at.ensures in (
+      c.in-Some.ensures.goes.keeps,
+      tt,
+      walk_turns _ _ _ _ _ _ _ c.loop-step.invariant.2 t e,
+      kept_on _ c.loop-step.invariant.3 (omega (arith, m.rises, t.last_is)) e c.read_point-read.auto.powers,
     )
 
 pub returns : goal.returns
 returns c =
     let a = c.args in
-    walk_answers a.archive.now a.place c.link_of-link.result c.link_of-link.ensures.0 a.powers.now c.requires.spare.size c.requires.spare.low
-    (walk_ends stepped a.archive.now a.place.used point_kind c.loop-link.invariant.0 c.loop-link-test.false) c.answer_of.ensures
+    walk_answers a.archive.now a.place c.link_of-first.result c.link_of-first.ensures.0 a.powers.now c.answer_of.result c.requires.spare.size c.requires.spare.low
+    (walk_ends _ _ _ _ _ _ _ c.loop-step.invariant.2 c.in-None.ensures.steps) c.answer_of.ensures

@@ -1,4 +1,3 @@
-use Prim.Native.Nat.{◌-◌}
 use Rattle.rules.specs.Archive.{point_kind}
 use Rattle.chains.proofs.Walking.{Walking}
 use Rattle.points.specs.Steps.{walk, no_points}
@@ -7,9 +6,9 @@ use Rattle.points.proofs.Walks.{Kept}
 use Rattle.points.proofs.read_points.Given as goal
 
 -- the walk along the chain, and what it keeps
-abbrev pub invariant-loop-link : goal.invariant-loop-link
-invariant-loop-link l =
-    Walking stepped l.archive l.used point_kind l.initial.last l.initial.link (walk no_points l.initial.powers) l.last l.link (walk l.read l.powers) × Kept l.initial.powers l.last (walk l.read l.powers)
-
-abbrev pub decreases-loop-link : goal.decreases-loop-link
-decreases-loop-link l = l.used - l.last
+abbrev pub invariant-loop-step : goal.invariant-loop-step
+invariant-loop-step l =
+    (goal.iterator-loop-step).can_next l.step-iterator
+    × (goal.iterator-loop-step).is_finite l.step-iterator
+    × Walking stepped l.archive l.fn.place.used point_kind l.fn.place.plant l.first (walk no_points l.initial.powers) l.step-iterator (walk l.read l.powers)
+    × Kept l.initial.powers l.step-iterator.last (walk l.read l.powers)

@@ -1,30 +1,19 @@
-use Rattle.place.proofs.Laws.{located, placed_refused}
-use Rattle.prepare.proofs.Bases.{no_place, lies_whole, at_whole}
+use Rattle.std.proofs.lemmas.Result.{err_from_is_err_and}
+use Rattle.prepare.proofs.Bases.{no_place, at_whole}
 use Rattle.prepare.proofs.prepare.Goals as goal
+
+pub returns-in_err-place : goal.returns-in_err-place
+returns-in_err-place c =
+    let a = c.args in
+    let p = err_from_is_err_and c.from_residual.result c.from_residual.ensures.1 in
+    rw (p.1, p.2) (no_place a.archive.now a.p a.k c.in_err-place.ensures.place)
 
 pub returns-then-not-needs_curve : goal.returns-then-not-needs_curve
 returns-then-not-needs_curve c =
     let a = c.args in
-    let l = located a.archive.now a.p a.k c.find.result _ c.find.ensures c.in-At.is in
-    at_whole a.archive.now a.p a.k _ c.in-At.place c.without_curve.result l.is c.without_curve.ensures
+    at_whole a.archive.now a.p a.k _ c.in_ok-place.place c.with_powers.result c.in_ok-place.ensures.place c.with_powers.ensures
 
-pub returns-in-Refused : goal.returns-in-Refused
-returns-in-Refused c =
+pub returns : goal.returns
+returns c =
     let a = c.args in
-    no_place a.archive.now a.p a.k _ _ (placed_refused _ c.find.result c.find.ensures _ c.in-Refused.is)
-
-pub returns-else-not-needs_curve : goal.returns-else-not-needs_curve
-returns-else-not-needs_curve c =
-    let a = c.args in
-    let l = located a.archive.now a.p a.k c.find.result _ c.find.ensures c.in-At.is in
-    at_whole a.archive.now a.p a.k _ c.in-At.place c.with_curve.result l.is c.with_curve.ensures
-
-pub without_curve-requires-clause-lies : goal.without_curve-requires-clause-lies
-without_curve-requires-clause-lies c =
-    let a = c.args in
-    lies_whole a.archive.now (located a.archive.now a.p a.k c.find.result _ c.find.ensures c.in-At.is).lies
-
-pub with_curve-requires-clause-lies : goal.with_curve-requires-clause-lies
-with_curve-requires-clause-lies c =
-    let a = c.args in
-    lies_whole a.archive.now (located a.archive.now a.p a.k c.find.result _ c.find.ensures c.in-At.is).lies
+    at_whole a.archive.now a.p a.k _ c.in_ok-place.place c.with_powers-2.result c.in_ok-place.ensures.place c.with_powers-2.ensures

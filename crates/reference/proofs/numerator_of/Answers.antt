@@ -1,40 +1,26 @@
-use mathlib.Core.Path.{refl}
+use Rattle.std.proofs.Common.{refl, ◌∙◌}
 use Rattle.rules.specs.Terms.{quarter_of}
 use Rattle.terms.specs.Meanings.{meaning}
-use Rattle.units.proofs.Laws.{back}
-use Rattle.reference.proofs.Referred.{referred_told, referred_as, last_referred}
-use Rattle.reference.specs.declared.Numerator.TheVariants as over
+use Rattle.reference.proofs.Manners.{own_undated, own_month, own_quarter}
 use Rattle.reference.proofs.numerator_of.Goals as goal
 
 pub returns-in-OnCurve : goal.returns-in-OnCurve
 unfolding quarter_of
-returns-in-OnCurve c =
-    let q = quarter_of (meaning c.args.terms) c.args.index c.args.r.now in
-    λ ref. referred_told c.in-OnCurve.is c.args.powers.now ref q c.on_curve.result (λ m. c.on_curve.ensures ref q m refl)
-
-pub returns-in-LastMeasured : goal.returns-in-LastMeasured
-unfolding quarter_of
-returns-in-LastMeasured c =
-    let q = quarter_of (meaning c.args.terms) c.args.index c.args.r.now in
-    λ ref. referred_told c.in-LastMeasured.is c.args.powers.now ref q (over.Of _)
-    (λ m. referred_as ref q (over.Of _) m (last_referred q _ _ (back _ c.struct_told-1.given.0.1)))
+returns-in-OnCurve c = rw c.in-OnCurve.is (λ ref m. c.on_curve.ensures ref _ m refl)
 
 pub returns-in-OnIrradiance : goal.returns-in-OnIrradiance
 unfolding quarter_of
-returns-in-OnIrradiance c =
-    let q = quarter_of (meaning c.args.terms) c.args.index c.args.r.now in
-    λ ref. referred_told c.in-OnIrradiance.is c.args.powers.now ref q c.on_irradiance.result
-    (λ m. referred_as ref q c.on_irradiance.result m (c.on_irradiance.ensures q refl))
+returns-in-OnIrradiance c = rw c.in-OnIrradiance.is (λ ref m. rw m (c.on_irradiance.ensures _ refl))
 
 pub returns-in-ByFactor : goal.returns-in-ByFactor
 unfolding quarter_of
 returns-in-ByFactor c =
-    let q = quarter_of (meaning c.args.terms) c.args.index c.args.r.now in
-    λ ref. referred_told c.in-ByFactor.is c.args.powers.now ref q c.by_factor.result
-    (λ m. referred_as ref q c.by_factor.result m.is (c.by_factor.ensures q c.month_of.ensures c.quarter_of_day_of.ensures))
+    let a = c.args in
+    let undated = own_undated (meaning a.terms) c.in-ByFactor.is c.requires.value in
+    rw c.in-ByFactor.is
+    (λ ref m. rw m.is
+    (c.by_factor.ensures _ (c.month_of.ensures ∙ own_month _ a.index a.r.now undated) (c.quarter_of_day_of.ensures ∙ own_quarter _ a.index a.r.now undated)))
 
 pub returns-in-AsPlanned : goal.returns-in-AsPlanned
 unfolding quarter_of
-returns-in-AsPlanned c = let q = quarter_of (meaning c.args.terms) c.args.index c.args.r.now in
-    λ ref. referred_told c.in-AsPlanned.is c.args.powers.now ref q c.as_planned.result
-    (λ m. referred_as ref q c.as_planned.result m (c.as_planned.ensures q refl))
+returns-in-AsPlanned c = rw c.in-AsPlanned.is (λ ref m. rw m (c.as_planned.ensures _ refl))

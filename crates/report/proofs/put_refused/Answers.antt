@@ -1,14 +1,13 @@
 use native.Mathlib.Omega.{arith}
-use Rattle.report.proofs.Laws.{writes_none, no_line_4, no_line_5, writes_line}
+use Rattle.std.proofs.Common.{rules}
+use Rattle.std.proofs.lemmas.Grind.{common_steps}
+use Rattle.report.proofs.Laws.{writes_none, writes_line}
 use Rattle.report.proofs.put_refused.Goals as goal
 
-pub returns-then-number-eq-NO_PLANT : goal.returns-then-number-eq-NO_PLANT
-returns-then-number-eq-NO_PLANT c = let a = c.args in (writes_none _ _ _ (no_line_4 a.number a.p a.k c.if-number-eq-NO_PLANT.true), omega arith)
+pub returns-in-4 : goal.returns-in-4
+returns-in-4 c = (writes_none _ _ _ (grind (arith, common_steps)), omega arith)
 
-pub returns-then-number-eq-NO_MEASURE : goal.returns-then-number-eq-NO_MEASURE
-returns-then-number-eq-NO_MEASURE c = let a = c.args in (writes_none _ _ _ (no_line_5 a.number a.p a.k c.if-number-eq-NO_MEASURE.true), omega arith)
-
-pub returns : goal.returns
-returns c =
+pub returns-in_default : goal.returns-in_default
+returns-in_default c =
     let a = c.args in
-    (writes_line a.number a.p a.k c.if-number-eq-NO_PLANT.false c.if-number-eq-NO_MEASURE.false c.put_refusal.ensures.0, omega arith)
+    (writes_line a.number a.p a.k (λ e. omega arith) (λ e. omega arith) (search rules), omega arith)

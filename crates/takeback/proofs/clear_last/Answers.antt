@@ -1,8 +1,10 @@
+use Rattle.std.proofs.Common.{◌≡◌, ◌+◌, ◌-◌, refl, sym, ◌∙◌, arith}
 use Rattle.rules.specs.TakeBack.{taken_back}
-use Rattle.rules.proofs.Write.{is_written}
 use Rattle.takeback.proofs.clear_last.Goals as goal
 
 pub returns : goal.returns
 unfolding taken_back
 returns c =
-    is_written _ _ _ _ _ _ c.put_bytes.ensures c.put_word.ensures c.put_word-2.ensures
+    let n = c.args.last.number in
+    let e : n + 1 - 1 ≡ n = omega arith in
+    c.write.ensures ∙ sym (rw e refl)

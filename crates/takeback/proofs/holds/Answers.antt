@@ -1,14 +1,11 @@
-use Rattle.takeback.proofs.Namings.{holds_next, holds_first, holds_second}
+use Rattle.std.proofs.Common.{eqb, refl, ◌∙◌}
+use mathlib.Core.Bool.{or_assoc}
+use Rattle.takeback.specs.Namings.{holds_number}
 use Rattle.takeback.proofs.holds.Goals as goal
 
-pub returns-then-a-number : goal.returns-then-a-number
-returns-then-a-number c =
-    holds_next _ c.link_of-a.ensures.0 c.link_of-b.ensures.0 c.link_of-c.ensures.0 c.if-a-number.true
-
-pub returns-then-b-number : goal.returns-then-b-number
-returns-then-b-number c =
-    holds_first _ c.link_of-a.ensures.0 c.link_of-b.ensures.0 c.link_of-c.ensures.0 c.if-a-number.false c.if-b-number.true
-
 pub returns : goal.returns
+unfolding holds_number
 returns c =
-    holds_second _ c.link_of-a.ensures.0 c.link_of-b.ensures.0 c.link_of-c.ensures.0 c.if-a-number.false c.if-b-number.false
+    let n = c.args.number in
+    or_assoc (eqb c.link_of-a.result n) (eqb c.link_of-b.result n) (eqb c.link_of-c.result n)
+    ∙ rw (c.link_of-a.ensures.0, c.link_of-b.ensures.0, c.link_of-c.ensures.0) refl

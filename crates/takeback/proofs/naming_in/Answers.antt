@@ -1,40 +1,38 @@
-use mathlib.Core.Logic.{inl, inr}
-use native.Mathlib.Omega.{arith}
-use Rattle.rules.proofs.Places.{at_within, at_few}
-use Rattle.record.proofs.Slots.{here, past, past_all}
-use Rattle.takeback.proofs.Namings.{read_none, read_all, read_second, read_on}
+use Rattle.std.proofs.Common.{sym, ◌∙◌, arith}
+use Rattle.rules.proofs.Places.{at_within}
+use Rattle.record.proofs.Linked.{here, past}
+use Rattle.takeback.proofs.Namings.{read_none, read_all, read_second, read_first, read_other}
 use Rattle.takeback.proofs.naming_in.Goals as goal
-use Rattle.takeback.proofs.naming_in.Goals.{then-link_of-named+else-place-ne0, else-link_of-named}
+use Rattle.takeback.proofs.naming_in.Goals.{then-link_of-named+else-is_some, else-link_of-named}
 
-pub loop-i-init : goal.loop-i-init
-loop-i-init c = read_none _ _ _ _
+pub loop-at-init : goal.loop-at-init
+loop-at-init c = read_none _ _ _ _
 
 pub link_of-requires : goal.link_of-requires
 link_of-requires c =
-    let w = at_within _ _ _ (here _ _ c.slot_at.ensures c.in-Link.is).has in
+    let h = here _ c.links_at-at-items.ensures _ c.loop-at-test.true in
+    let w = at_within c.args.archive.now c.args.n _ h.has in
     (c.requires, w.1)
 
-pub returns-then-place-ne0 : goal.returns-then-place-ne0
-returns-then-place-ne0 c =
-    read_second c.loop-i.invariant (here _ _ c.slot_at.ensures c.in-Link.is) c.link_of.ensures.0 c.if-link_of-named.true c.if-place-ne0.true
+pub returns-then-is_some : goal.returns-then-is_some
+returns-then-is_some c =
+    let h = here _ c.links_at-at-items.ensures _ c.loop-at-test.true in
+    read_second c.loop-at.invariant h c.link_of.ensures.0 c.if-link_of-named.true (sym c.is_some.ensures ∙ c.if-is_some.true)
 
 pub overflow_add-place : goal.overflow_add-place
 overflow_add-place c =
+    let h = here _ c.links_at-at-items.ensures _ c.loop-at-test.true in
+    let w = at_within c.args.archive.now c.args.n _ h.has in
     let p = c.requires in
-    let w = at_within _ _ _ (here _ _ c.slot_at.ensures c.in-Link.is).has in
     omega arith
 
-pub loop-i-preserved : goal.loop-i-preserved
-loop-i-preserved c =
-    read_on c.loop-i.invariant (here _ _ c.slot_at.ensures c.in-Link.is) c.link_of.ensures.0
+pub loop-at-preserved : goal.loop-at-preserved
+loop-at-preserved c =
+    let h = here _ c.links_at-at-items.ensures _ c.loop-at-test.true in
     elim c.if-link_of-named.branch [
-      | then-link_of-named+else-place-ne0 w ↦ inl (w.if-link_of-named.true, w.if-place-ne0.false, w.place-is)
-      | else-link_of-named w ↦ inr (w.if-link_of-named.false, w.place-is)
+      | then-link_of-named+else-is_some w ↦ rw w.place-is (read_first c.loop-at.invariant h c.link_of.ensures.0 w.if-link_of-named.true (sym w.is_some.ensures ∙ w.if-is_some.false))
+      | else-link_of-named w ↦ rw w.place-is (read_other c.loop-at.invariant h c.link_of.ensures.0 w.if-link_of-named.false)
     ]
 
-pub returns-after-loop-i : goal.returns-after-loop-i
-returns-after-loop-i c = read_all c.loop-i.invariant (past_all _ (at_few _ _) c.loop-i-test.false)
-
-pub returns-in_default : goal.returns-in_default
-returns-in_default c =
-    read_all c.loop-i.invariant (past _ _ c.slot_at.ensures c.in_default.is)
+pub returns : goal.returns
+returns c = read_all c.loop-at.invariant (past _ c.links_at-at-items.ensures _ c.loop-at-test.false)

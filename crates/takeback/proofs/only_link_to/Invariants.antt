@@ -1,9 +1,5 @@
-use Prim.Native.Nat.{◌-◌, ◌≤◌}
 use Rattle.takeback.proofs.Namings.{Met}
 use Rattle.takeback.proofs.only_link_to.Given as goal
 
 abbrev pub invariant-loop-n : goal.invariant-loop-n
-invariant-loop-n l = Met l.archive l.named l.n l.met × (l.n ≤ l.used)
-
-abbrev pub decreases-loop-n : goal.decreases-loop-n
-decreases-loop-n l = l.used - l.n
+invariant-loop-n l = Met l.archive l.named l.n l.met
