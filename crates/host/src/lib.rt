@@ -1,5 +1,6 @@
 // The calls for the operator's host, written in C (documents 01, 'Calls on the archive', and 02); include/sandegmur.h declares them. By the
-// C interface each gives a number, of its refusal or 0, and writes what else it finds into what is lent; lists and records are bytes.
+// C interface each gives a number, of its refusal or 0, and writes what else it finds into what is lent; lists and records are bytes, and
+// places, an owner with its record, and the correction's three lists are parameters of their own.
 #![tactic(auto)]
 
 ghost use Rattle.std.specs.Prelude.{◌≡◌, ◌/◌, ◌≤◌, min, length, ◌++◌};
