@@ -89,6 +89,10 @@ module _ (d : ℕ) (ms : List ℕ) (r t i : ℕ) (h : Running d ms r t i) (withi
               (sym (drop-drop (length part) (size * i) ys) ∙ ap (drop (length part)) w.kept ∙ drop-drop (length part) (size * i) ys₀);
         }
 
+-- the total is at most the whole sheet's
+pub total_below : (d : ℕ) (ms : List ℕ) (r t i : ℕ) → Running d ms r t i → sum ms / d < 2 ^ 63 → t < 2 ^ 63
+total_below d ms r t i h fits = let p : 0 < d = omega (arith, h.small) in omega (arith, h.summed, whole d ms p)
+
 -- none left
 module _ (d : ℕ) (ms : List ℕ) (s : Direction) (r t i : ℕ) (h : Running d ms r t i) (end : length ms ≤ i) where
   p : 0 < d
@@ -108,9 +112,6 @@ module _ (d : ℕ) (ms : List ℕ) (s : Direction) (r t i : ℕ) (h : Running d 
   total_all =
       let sum_is : t ≡ sum (carried_from d 0 ms) = omega (arith, simp (all, drop-length) at h.summed) in
       ap (signed s) sum_is ∙ sym (sum_signed s (carried_from d 0 ms)) ∙ ap sumℤ (sym (amounts_are d ms p s))
-
-  pub total_below : sum ms / d < 2 ^ 63 → t < 2 ^ 63
-  total_below fits = omega (arith, h.summed, whole d ms p)
 
 -- ---- lists of signed numbers and of bytes
 

@@ -29,6 +29,9 @@ module _ (archive : List ℕ) (used kind place holder first : ℕ) where
             ∙ rw (s.last_is, s.link_is) refl;
       }
 
+  pub no_link : first ≡ 0 → (missing : ℕ) → refused missing ≡ at_place archive used kind missing place holder first
+  no_link z missing = sym (place_missing archive used kind holder first missing place z)
+
   module _ {links : ℕ} {walk : Chain} (w : Nearing links walk) where
     pub nears_there : {n : ℕ} {then : Chain} → Turns walk n then → links + 1 ≡ place → (missing : ℕ)
         → given (entry_at archive n) ≡ at_place archive used kind missing place holder first

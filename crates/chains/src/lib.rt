@@ -109,6 +109,11 @@ pub fn walk_to(
     if place == 0 {
         return Ok(None);
     }
+    // Asked here too, as the iterator would: so the compiler keeps the first link apart from the next ones, which take a quarter more time
+    // where it reads both in one place.
+    if first == 0 {
+        return Ok(None);
+    }
     // counted here, since a place counts from 1 and enumerate from 0
     let mut passed: u64 = 0;
     for step in Chain::starting(archive, used, kind, holder, first) {

@@ -73,10 +73,16 @@ fn money_of(exact: MillionthCent) -> Money
 
 // ---- the lists
 
+// By their places, where all() would do: so that a place which is passed over is refused at what the loop keeps, and not for its form.
 fn all_energies(energies: &[i64]) -> bool
     ensures { result ≡ list_all is_energy energies.now }
 {
-    energies.iter().all(|energy| is_energy(WattHour(*energy)))
+    for place in 0..energies.len() {
+        if !is_energy(WattHour(energies[place])) {
+            return false;
+        }
+    }
+    true
 }
 
 // Asked where a quarter isn't allowed, of the energies from it on: 20 where one of these is beyond its range, else 21, for the price.

@@ -4,7 +4,7 @@
 ghost use Rattle.std.specs.Prelude.{◌≡◌, true, false};
 ghost use Rattle.rules.specs.Settle.{basis_of, settled};
 ghost use Rattle.place.specs.Places.{meant, Lies};
-ghost use Rattle.basis.specs.Bases.{needs_curve, Found};
+ghost use Rattle.basis.specs.Bases.{needs_curve, Finds};
 ghost use Rattle.prepare.specs.Answers.{Prepares, settled_at};
 
 use basis::Basis;
@@ -24,14 +24,15 @@ pub struct Measure {
 fn on_basis(
     archive: &[u8],
     place: Place,
-    basis: Basis,
+    found: Result<Basis, Refusal>,
     powers: &[u32],
     sheet: &mut [u64],
 ) -> Result<Measure, Refusal>
     requires lies { Lies archive.now place }
-    requires finds { Found (basis_of archive.now (meant archive.now place)) powers.now basis }
+    requires finds { Finds (basis_of archive.now (meant archive.now place)) powers.now found }
     ensures { Prepares (settled_at archive.now (meant archive.now place)) sheet.new result }
 {
+    let basis = found?;
     let d = reference::denominator(basis.reference);
     let count = quarters::walk(archive, place, basis.reference, d, powers, sheet)?;
     Ok(Measure {
@@ -54,8 +55,8 @@ fn with_powers<const N: usize>(
     ensures { Prepares (settled_at archive.now (meant archive.now place)) sheet.new result }
 {
     let mut powers = [0u32; N];
-    let basis = basis::find(archive, place, &mut powers)?;
-    on_basis(archive, place, basis, &powers, sheet)
+    let found = basis::find(archive, place, &mut powers);
+    on_basis(archive, place, found, &powers, sheet)
 }
 
 // The exact magnitudes into the sheet, as far as it has places: 1 to 12, and 18. The archive is lent on as a part of itself, the whole:

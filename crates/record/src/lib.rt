@@ -139,19 +139,15 @@ pub fn links_at(archive: &[u8], n: u64) -> &'static [Link]
     links_of(record_at(archive, n))
 }
 
-// Its links but the one to the next record of its chain. Most records of an archive have that one alone; audit is quicker where it reads no
-// list for it.
-pub fn owned_of(r: &Record) -> &'static [Link]
+// Its links but the one to the next record of its chain, as links_of has them behind that.
+fn owned_of(r: &Record) -> &'static [Link]
     ensures { listed result.now ≡ owned_by r.now }
 {
-    let kind = kind_of(r);
-    if kind == kind::PLANT {
-        return &[Link(8, kind::POINT), Link(12, kind::MEASURE)];
+    let links = links_of(r);
+    if links.is_empty() {
+        return links;
     }
-    if kind == kind::MEASURE {
-        return &[Link(8, kind::BEFORE), Link(12, kind::QUARTER)];
-    }
-    &[]
+    &links[1..]
 }
 
 // Of record n, beside links_at as owned_of is beside links_of.
@@ -159,8 +155,8 @@ pub fn owned_at(archive: &[u8], n: u64) -> &'static [Link]
     requires { 32 * n + 32 ≤ length archive.now }
     ensures { listed result.now ≡ owned_at archive.now n }
 {
-    match n {
-        0 => &[Link(8, kind::PLANT)],
-        _ => owned_of(record_at(archive, n)),
+    if n == 0 {
+        return links_at(archive, n);
     }
+    owned_of(record_at(archive, n))
 }

@@ -4,8 +4,8 @@
 ghost use Rattle.std.specs.Prelude.{◌≡◌, ◌≤◌, ◌<◌, Some};
 ghost use Rattle.std.specs.Int.Signed.{mag};
 ghost use Rattle.rules.specs.Numbers.{or_zero};
-ghost use Rattle.rules.specs.Archive.{byte_at, field_at};
-ghost use Rattle.rules.specs.Terms.{Quarter, reading_at, quarter_of};
+ghost use Rattle.rules.specs.Archive.{field_at};
+ghost use Rattle.rules.specs.Terms.{Quarter, month_of, quarter_of_day_of, reading_at, quarter_of};
 ghost use Rattle.rules.specs.October.{reference_bounds};
 ghost use Rattle.rules.specs.Reference as book;
 ghost use Rattle.record.specs.Powers.{SmallestOf};
@@ -60,15 +60,17 @@ pub fn denominator(reference: Reference) -> u64
 
 // ---- month and quarter of the day
 
-// Of a measure without a date: the quarter's own. Two functions of a byte each, as the book has two names for them.
-fn month_of(r: &Record) -> u64
-    ensures { result ≡ byte_at r.now 1 }
+// Of a measure without a date: the quarter's own. Two functions of a byte each, as the book has two names for them, with its parameters.
+fn month_of(terms: Terms, index: u64, r: &Record) -> u64
+    requires { (meaning terms).first ≡ 0 }
+    ensures { result ≡ month_of (meaning terms) index r.now }
 {
     u64::from(r[1])
 }
 
-fn quarter_of_day_of(r: &Record) -> u64
-    ensures { result ≡ byte_at r.now 2 }
+fn quarter_of_day_of(terms: Terms, index: u64, r: &Record) -> u64
+    requires { (meaning terms).first ≡ 0 }
+    ensures { result ≡ quarter_of_day_of (meaning terms) index r.now }
 {
     u64::from(r[2])
 }
@@ -179,7 +181,11 @@ pub fn numerator_of(
         Reference::OnCurve { a, b, pn, curve } => on_curve(a, b, pn, curve, powers, r),
         Reference::LastMeasured(p0) => Some(p0.0),
         Reference::OnIrradiance { a, b } => on_irradiance(a, b, r),
-        Reference::ByFactor(pn) => by_factor(pn, month_of(r), quarter_of_day_of(r)),
+        Reference::ByFactor(pn) => by_factor(
+            pn,
+            month_of(terms, index, r),
+            quarter_of_day_of(terms, index, r),
+        ),
         Reference::AsPlanned => as_planned(r),
     }
 }

@@ -1,12 +1,15 @@
 -- Writes one after another are one write; numbers in the digits that std writes.
 use mathlib.Core.Path.{◌≡◌, refl, sym, ◌∙◌, ap}
 use mathlib.Core.List.{List, [], ◌∷◌, ◌++◌, append_assoc}
-use Prim.Native.Nat.{ℕ, suc, ◌+◌, ◌%◌, ◌^◌, ◌≤◌, ◌<◌}
+use Prim.Native.Nat.{ℕ, suc, ◌+◌, ◌/◌, ◌%◌, ◌^◌, ◌≤◌, ◌<◌}
 use native.Mathlib.Omega.{arith}
-use lib.IntN.{ℤ, pos, negsuc}
-use lib.ListN.{length, take, drop, set, length-append}
+use lib.IntN.{ℤ, pos, negsuc, nat_abs}
+use lib.ListN.{length, take, drop, set, length-append, take-append-drop}
 use lib.Seq.{length-take-le, take_at, drop_at, drop-drop, set_split}
-use lib.Signed.{mag}
+use lib.Signed.{mag, lt_z}
+use mathlib.Core.Bool.{true, false}
+use borrow.Author.Tests.{ltb-true}
+use Rattle.std.proofs.lemmas.Fmt.{length-decimal-le}
 use Rattle.std.specs.Fmt as std
 use Rattle.std.proofs.lemmas.Fmt.{decimal_by_steps}
 use Rattle.rules.specs.Encoding.{put}
@@ -71,11 +74,37 @@ appends_most j h v = record { same = v.same; writes = v.writes; within = omega (
 
 -- ---- numbers
 
+-- their digits, written from the last to the first so that they end at a place, are one write
+pub digits_put : (a b l : List ℕ) (at r end : ℕ) → r + length l ≡ end → end ≡ at + length l → drop r b ≡ l ++ drop end a → take r b ≡ take r a → Writes a at l b end
+unfolding put
+digits_put a b l at r end start ends written before =
+    let i : r ≡ at = omega (arith, start, ends) in
+    record {
+      is = sym (take-append-drop r b) ∙ rw (written, before, i, ends);
+      ends = ends;
+    }
+
+pub digits_one : (n : ℕ) → n < 10 → length (decimal n) ≡ 1
+digits_one n h = ap (λ (l : List ℕ). length l) (digits_small n h)
+
+pub digits_longer : (n : ℕ) → 10 ≤ n → n < 10 ^ 20 → length (decimal n) ≡ length (decimal (n / 10)) + 1
+digits_longer n h most =
+    ap (λ (l : List ℕ). length l) (digits_more n h most) ∙ length-append (decimal (n / 10)) ((48 + n % 10) ∷ [])
+
 pub as_std : (n : ℕ) → n < 2 ^ 64 → decimal n ≡ std.decimal n
 as_std n h =
     decimal_by_steps (λ m l. m < 2 ^ 64 → decimal m ≡ l) (λ m s k. digits_small m s)
     (λ m l s e k. digits_more m s (omega arith) ∙ ap (λ (ds : List ℕ). ds ++ ((48 + m % 10) ∷ [])) (e (omega arith))) n h h
 
-pub as_std_signed : (z : ℤ) → mag z < 2 ^ 63 → signed_decimal z ≡ std.signed_decimal z
-as_std_signed (pos n) h = as_std n (omega arith)
-as_std_signed (negsuc n) h = ap (λ (l : List ℕ). 45 ∷ l) (as_std (suc n) (omega arith))
+-- no amount has more than 19 digits
+pub digits_few : (n : ℕ) → n < 10 ^ 19 → length (decimal n) ≤ 19
+digits_few n h = rw (as_std n (omega arith)) (length-decimal-le 19 n (omega arith) h (omega arith))
+
+-- a minus sign below zero, then the digits of the magnitude
+pub signed_below : (z : ℤ) → lt_z z (pos 0) ≡ true → signed_decimal z ≡ 45 ∷ decimal (nat_abs z)
+signed_below (pos n) e = absurd (omega (arith, ltb-true n 0 e))
+signed_below (negsuc n) e = refl
+
+pub signed_above : (z : ℤ) → lt_z z (pos 0) ≡ false → signed_decimal z ≡ decimal (nat_abs z)
+signed_above (pos n) e = refl
+signed_above (negsuc n) e = cc

@@ -5,7 +5,18 @@ ghost use Rattle.std.specs.Prelude.{◌≡◌, ◌∷◌, [], ◌+◌, ◌≤◌
 ghost use Rattle.rules.specs.Output.{decimal, signed_decimal, text_of, measure_line, quarter_line, refusal_line};
 ghost use Rattle.text.specs.Writes.{HasRoom, Appends};
 
-use itoa::{Buffer, Integer};
+// The count of a number's digits.
+fn width(n: u64) -> usize
+    ensures { (result ≡ length (decimal n)) × (result ≤ 20) }
+{
+    let mut digits = 1;
+    let mut rest = n;
+    while 10 <= rest {
+        digits += 1;
+        rest /= 10;
+    }
+    digits
+}
 
 // Text written into lent bytes from a place on: what is written ends before `end`.
 #[derive(Drop)]
@@ -29,16 +40,16 @@ impl<'a> Text<'a> {
         self.end += 1;
     }
 
-    // ---- numbers in decimal digits, after a minus sign below zero
+    // ---- numbers in decimal digits
 
-    fn digits<I: Integer>(&mut self, value: I)
-        requires { HasRoom self.old I.MAX_STR_LEN }
-        ensures { Appends self.old (I.text value) I.MAX_STR_LEN self.new }
+    // Where they stay, from the last to the first: copied out of itoa's buffer, a line of short numbers takes a third more time.
+    fn digits(&mut self, n: u64)
+        requires { HasRoom self.old (length (decimal n)) }
+        ensures { Appends self.old (decimal n) (length (decimal n)) self.new }
     {
-        let mut buffer = Buffer::new();
-        let digits = buffer.format(value).as_bytes();
-        writing::put_bytes(self.out, self.end as u64, digits);
-        self.end += digits.len();
+        let end = self.end + width(n);
+        itoa::write_digits(n, self.out, end);
+        self.end = end;
     }
 
     pub fn decimal(&mut self, n: u64)
@@ -48,28 +59,33 @@ impl<'a> Text<'a> {
         self.digits(n);
     }
 
-    // ---- words of a line, each after a space: a number's and an amount's by their own names, since a line has both
+    // ---- words of a line, each after a space
 
-    fn word<I: Integer>(&mut self, value: I)
-        requires { HasRoom self.old (1 + I.MAX_STR_LEN) }
-        ensures { Appends self.old (32 ∷ I.text value) (1 + I.MAX_STR_LEN) self.new }
+    fn space(&mut self)
+        requires { HasRoom self.old 1 }
+        ensures { Appends self.old (32 ∷ []) 1 self.new }
     {
         self.byte(b' ');
-        self.digits(value);
     }
 
     pub fn number(&mut self, n: u64)
         requires { HasRoom self.old 21 }
         ensures { Appends self.old (32 ∷ decimal n) 21 self.new }
     {
-        self.word(n);
+        self.space();
+        self.decimal(n);
     }
 
+    // After a minus sign below zero.
     pub fn amount(&mut self, z: i64)
         requires { HasRoom self.old 21 }
         ensures { Appends self.old (32 ∷ signed_decimal z) 21 self.new }
     {
-        self.word(z);
+        self.space();
+        if z < 0 {
+            self.byte(b'-');
+        }
+        self.digits(z.unsigned_abs());
     }
 
     // ---- lines

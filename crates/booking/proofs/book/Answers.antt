@@ -52,4 +52,4 @@ pub returns-clause-fits : goal.returns-clause-fits
 returns-clause-fits g c =
     let l = c.loop-i in
     let v = l.invariant in
-    total_below l.carry.divisor.denominator c.args.sheet.now c.args.direction l.carry.remainder l.total l.i v.running c.loop-i-test.false (rw v.over c.requires.fits)
+    total_below l.carry.divisor.denominator c.args.sheet.now l.carry.remainder l.total l.i v.running (rw v.over c.requires.fits)

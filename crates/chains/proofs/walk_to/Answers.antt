@@ -1,7 +1,10 @@
 use Rattle.std.proofs.lemmas.Result.{err_from_is_err_and}
 use Rattle.chains.proofs.Walking.{lies_starts}
-use Rattle.chains.proofs.Places.{nears_starts, nears_on, nears_refused}
+use Rattle.chains.proofs.Places.{no_link, nears_starts, nears_on, nears_refused}
 use Rattle.chains.proofs.walk_to.Goals as goal
+
+pub returns-then-first-eq0 : goal.returns-then-first-eq0
+returns-then-first-eq0 c = no_link _ _ _ _ _ _ c.if-first-eq0.true
 
 pub loop-step-init : goal.loop-step-init
 loop-step-init c =

@@ -1,12 +1,13 @@
-use Rattle.std.proofs.Common.{sym, ◌∙◌}
-use Rattle.record.proofs.Links.{owned_kind, owned_none}
+use Rattle.std.proofs.Common.{◌∙◌, ap, rules, tests}
+use Rattle.std.proofs.lemmas.List.{take_all}
+use Rattle.record.specs.Linked.{listed}
+use Rattle.record.proofs.Links.{owned_empty, owned_rest}
 use Rattle.record.proofs.owned_of.Goals as goal
 
-pub returns-then-kind-eq-PLANT : goal.returns-then-kind-eq-PLANT
-returns-then-kind-eq-PLANT c = owned_kind _ 1 (sym c.kind_of-kind.ensures ∙ c.if-kind-eq-PLANT.true)
-
-pub returns-then-kind-eq-MEASURE : goal.returns-then-kind-eq-MEASURE
-returns-then-kind-eq-MEASURE c = owned_kind _ 3 (sym c.kind_of-kind.ensures ∙ c.if-kind-eq-MEASURE.true)
+pub returns-then-is_empty : goal.returns-then-is_empty
+returns-then-is_empty c = owned_empty _ _ c.links_of-links.ensures (search (rules, tests))
 
 pub returns : goal.returns
-returns c = owned_none _ _ (sym c.kind_of-kind.ensures) c.if-kind-eq-PLANT.false c.if-kind-eq-MEASURE.false
+returns c =
+    ap listed (take_all _ _ (search (rules, tests)))
+    ∙ owned_rest _ _ c.links_of-links.ensures (search (rules, tests))

@@ -1,7 +1,7 @@
-use Rattle.std.proofs.Common.{refl, ◌∙◌}
+use Rattle.std.proofs.Common.{refl}
 use Rattle.rules.specs.Terms.{quarter_of}
 use Rattle.terms.specs.Meanings.{meaning}
-use Rattle.reference.proofs.Manners.{own_undated, own_month, own_quarter}
+use Rattle.reference.proofs.Manners.{own_undated}
 use Rattle.reference.proofs.numerator_of.Goals as goal
 
 pub returns-in-OnCurve : goal.returns-in-OnCurve
@@ -12,14 +12,15 @@ pub returns-in-OnIrradiance : goal.returns-in-OnIrradiance
 unfolding quarter_of
 returns-in-OnIrradiance c = rw c.in-OnIrradiance.is (λ ref m. rw m (c.on_irradiance.ensures _ refl))
 
+pub month_of-requires : goal.month_of-requires
+month_of-requires c = own_undated (meaning c.args.terms) c.in-ByFactor.is c.requires.value
+
+pub quarter_of_day_of-requires : goal.quarter_of_day_of-requires
+quarter_of_day_of-requires c = own_undated (meaning c.args.terms) c.in-ByFactor.is c.requires.value
+
 pub returns-in-ByFactor : goal.returns-in-ByFactor
 unfolding quarter_of
-returns-in-ByFactor c =
-    let a = c.args in
-    let undated = own_undated (meaning a.terms) c.in-ByFactor.is c.requires.value in
-    rw c.in-ByFactor.is
-    (λ ref m. rw m.is
-    (c.by_factor.ensures _ (c.month_of.ensures ∙ own_month _ a.index a.r.now undated) (c.quarter_of_day_of.ensures ∙ own_quarter _ a.index a.r.now undated)))
+returns-in-ByFactor c = rw c.in-ByFactor.is (λ ref m. rw m.is (c.by_factor.ensures _ c.month_of.ensures c.quarter_of_day_of.ensures))
 
 pub returns-in-AsPlanned : goal.returns-in-AsPlanned
 unfolding quarter_of

@@ -1,6 +1,10 @@
 use native.Mathlib.Omega.{arith}
-use Rattle.text.proofs.Texts.{as_std}
+use Rattle.rules.proofs.Output.{decimal_length}
+use Rattle.text.proofs.Texts.{appends_most}
 use Rattle.text.proofs.Text.decimal.Goals as goal
 
+pub digits-requires : goal.digits-requires
+digits-requires c = omega (arith, decimal_length c.args.n)
+
 pub returns : goal.returns
-returns c = rw (as_std c.args.n (omega arith)) c.digits.ensures
+returns c = appends_most 20 (omega (arith, decimal_length c.args.n)) c.digits.ensures

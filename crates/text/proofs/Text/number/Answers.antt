@@ -1,6 +1,6 @@
 use native.Mathlib.Omega.{arith}
-use Rattle.text.proofs.Texts.{as_std}
+use Rattle.text.proofs.Texts.{appends_on}
 use Rattle.text.proofs.Text.number.Goals as goal
 
 pub returns : goal.returns
-returns c = rw (as_std c.args.n (omega arith)) c.word.ensures
+returns c = appends_on c.space.ensures c.decimal.ensures (omega arith)
