@@ -53,6 +53,16 @@ module _ (a : List ℕ) where
       let r = head_room a u h in
       record { is = sym e; some = omega arith; few = omega arith; within = omega arith }
 
+  -- the same, each by itself
+  pub used_some : (u : ℕ) → given u ≡ used_of a → 1 ≤ u
+  used_some u e = let o = opened u e in o.some
+
+  pub used_few : (u : ℕ) → given u ≡ used_of a → u < 65536
+  used_few u e = let o = opened u e in o.few
+
+  pub used_fits : (u : ℕ) → given u ≡ used_of a → 32 * u ≤ length a
+  used_fits u e = let o = opened u e in o.within
+
 -- ---- show
 
 module _ (archive : Bor (List ℕ)) (n : ℕ) (part : Bor (List ℕ)) (block : part.ref_ptr.0 ≡ archive.ref_ptr.0) where

@@ -3,9 +3,10 @@
 
 ghost use Rattle.std.specs.Prelude.{◌≡◌, ◌+◌, ◌*◌, ◌≤◌, ◌<◌, length};
 ghost use Rattle.rules.specs.Outcome.{number_of};
-ghost use Rattle.rules.specs.Links.{link, owned_at};
+ghost use Rattle.rules.specs.Links.{link, links_at};
 ghost use Rattle.rules.specs.Promises.{Audits};
 ghost use Rattle.rules.specs.Results.{outcome};
+ghost use Rattle.record.specs.Linked.{listed};
 ghost use Rattle.audit.specs.Marks.{marked, marked_once, LinkChecked, LinksChecked, RecordChecked, RecordsChecked};
 
 use record::Link;
@@ -27,12 +28,17 @@ fn mark(marks: &mut Marks, n: u64)
     }
 }
 
-// Each used record but the head is named once.
+// Each used record but the head is named once. No mark ends the loop, so many are compared at a time.
+#[tactic(auto, using(crate::proofs::Marks::pass))]
 fn all_once(marks: &Marks, used: u64) -> bool
     requires { (1 ≤ used) × (used ≤ 65536) }
     ensures { result ≡ marked_once marks.now used }
 {
-    marks[1..used as usize].iter().all(|&m| m == 1)
+    let mut once = true;
+    for &m in &marks[1..used as usize] {
+        once &= m == 1;
+    }
+    once
 }
 
 // ---- the records
@@ -60,18 +66,21 @@ impl<'a> Records<'a> {
         Ok(())
     }
 
-    // The links to the first records of the chains that record n owns, in byte order.
-    fn check_owned(&self, n: u64, marks: &mut Marks) -> Result<(), Refusal>
-        requires { n < self.now.used }
-        ensures { let a = self.now.archive.now in LinksChecked a self.now.used n (owned_at a n) marks.old marks.new result }
+    // The links of record n, which are these, in byte order.
+    #[tactic(auto, using(crate::proofs::Marks::links))]
+    fn check_links(&self, n: u64, links: &[Link], marks: &mut Marks) -> Result<(), Refusal>
+        requires below { n < self.now.used }
+        requires its { listed links.now ≡ links_at self.now.archive.now n }
+        ensures { let a = self.now.archive.now in LinksChecked a self.now.used n (links_at a n) marks.old marks.new result }
     {
-        for &Link(at, to) in record::owned_at(self.archive, n) {
+        for &Link(at, to) in links {
             self.check_link(n, at, to, marks)?;
         }
         Ok(())
     }
 
-    // The kind of record n, which isn't the head, then its links: on along its own chain, then those.
+    // The kind of record n, which isn't the head, then its links.
+    #[tactic(auto, using(crate::proofs::Marks::kinds))]
     fn check_record(&self, n: u64, marks: &mut Marks) -> Result<(), Refusal>
         requires { (1 ≤ n) × (n < self.now.used) }
         ensures { RecordChecked self.now.archive.now self.now.used n marks.old marks.new result }
@@ -80,15 +89,15 @@ impl<'a> Records<'a> {
         if !record::is_kind(kind) {
             return Err(Refusal::WrongKind);
         }
-        self.check_link(n, 4, kind, marks)?;
-        self.check_owned(n, marks)
+        self.check_links(n, record::links_at(self.archive, n), marks)
     }
 
     // The head's link, then each used record by number.
+    #[tactic(auto, using(crate::proofs::Marks::records))]
     fn check(&self, marks: &mut Marks) -> Result<(), Refusal>
         ensures { RecordsChecked self.now.archive.now self.now.used self.now.used marks.old marks.new result }
     {
-        self.check_owned(0, marks)?;
+        self.check_links(0, record::links_at(self.archive, 0), marks)?;
         for n in 1..self.used {
             self.check_record(n, marks)?;
         }
@@ -99,6 +108,7 @@ impl<'a> Records<'a> {
 // ---- audit
 
 // 1; the head's link and each record by number; then 17.
+#[tactic(auto, using(crate::proofs::Audits::audits), unfolding(crate::specs::Marks::no_marks))]
 pub fn audit(archive: &[u8]) -> Result<(), Refusal>
     ensures { Audits archive.now (number_of (outcome result)) }
 {

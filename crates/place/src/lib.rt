@@ -43,6 +43,7 @@ fn reach(
 }
 
 // 1; plants to p (2, 3, 4); measures to k (2, 3, 5); 6; 7.
+#[tactic(auto, using(crate::proofs::Laws::places))]
 pub fn find(archive: &[u8], p: u64, k: u64) -> Result<Place, Refusal>
     ensures place { outcome_by (meant archive.now) result ≡ place_of archive.now p k }
     ensures lies { IfOk result (Lies archive.now) }

@@ -61,6 +61,7 @@ fn with_powers<const N: usize>(
 
 // The exact magnitudes into the sheet, as far as it has places: 1 to 12, and 18. The archive is lent on as a part of itself, the whole:
 // so the compiler keeps its address in a register.
+#[tactic(auto, using(crate::proofs::Bases::no_place, crate::proofs::Bases::at_whole))]
 pub fn prepare(archive: &[u8], p: u64, k: u64, sheet: &mut [u64]) -> Result<Measure, Refusal>
     ensures { Prepares (settled archive.now p k) sheet.new result }
 {

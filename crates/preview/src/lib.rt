@@ -48,6 +48,7 @@ pub fn undo(archive: &mut [u8], appended: Appended)
 // ---- preview
 
 // Append's refusals first, then settle's answer, list and refusal.
+#[tactic(auto, using(rules::proofs::Preview::preview_refused, rules::proofs::Preview::preview_settled))]
 pub fn preview(
     archive: &mut [u8],
     owner: u64,

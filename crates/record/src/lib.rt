@@ -105,27 +105,38 @@ pub fn is_kind(kind: u8) -> bool
 #[derive(Clone, Copy)]
 pub struct Link(pub usize, pub u8);
 
+// Where a row of links_of has no link.
+const NONE: Link = Link(0, 0);
+
 // All links of a record in byte order: to the next record of its chain, then to the first of each chain that it owns. What it has follows
-// from bytes 0-2.
+// from bytes 0-2. Each kind has a row. How much of it counts is told from the kind, since audit would wait for a length that is looked up.
 pub fn links_of(r: &Record) -> &'static [Link]
     ensures { listed result.now ≡ links_of r.now }
 {
-    match kind_of(r) {
-        kind::PLANT => &[
+    let rows: &'static [[Link; 3]; 5] = &[
+        [
             Link(4, kind::PLANT),
             Link(8, kind::POINT),
             Link(12, kind::MEASURE),
         ],
-        kind::POINT => &[Link(4, kind::POINT)],
-        kind::MEASURE => &[
+        [Link(4, kind::POINT), NONE, NONE],
+        [
             Link(4, kind::MEASURE),
             Link(8, kind::BEFORE),
             Link(12, kind::QUARTER),
         ],
-        kind::BEFORE => &[Link(4, kind::BEFORE)],
-        kind::QUARTER => &[Link(4, kind::QUARTER)],
-        _ => &[],
+        [Link(4, kind::BEFORE), NONE, NONE],
+        [Link(4, kind::QUARTER), NONE, NONE],
+    ];
+    let kind = kind_of(r);
+    if !is_kind(kind) {
+        return &[];
     }
+    let row = &rows[usize::from(kind - 1)];
+    if (kind == kind::PLANT) | (kind == kind::MEASURE) {
+        return row;
+    }
+    &row[..1]
 }
 
 // Of record n; the head has one, to the first plant.
