@@ -1,2 +1,3 @@
 pub mod Audits
 pub mod Marks
+pub mod Steps

@@ -1,42 +1,56 @@
--- What each check of audit answers, over plain variables: links, records, and the table of marks.
-use Rattle.std.proofs.Common.{◌≡◌, ℕ, zero, suc, ◌+◌, ◌*◌, ◌-◌, ◌≤◌, ◌<◌, Bool, true, false, cond, ◌&&◌, ◌||◌, List, [], ◌∷◌, ◌++◌, map, length, take, drop, get_or, set, eqb, Ok, Err, refl, sym, ◌∙◌, ap, subst, arith, length-take}
+-- What each check of audit answers and the marks that it leaves, over plain variables: checks one after another, links, records, and the table
+-- of marks.
+use Rattle.std.proofs.Common.{◌≡◌, ℕ, zero, suc, ◌+◌, ◌*◌, ◌-◌, ◌≤◌, ◌<◌, Bool, true, false, cond, ◌&&◌, ◌||◌, List, [], ◌∷◌, ◌++◌, length, take, drop, get_or, set, eqb, MatchBool, Result, Ok, Err, refl, sym, ◌∙◌, ap, subst, arith, length-take, length-drop}
+use Rattle.std.specs.List.{AllWithin, HoldsAt}
 use Rattle.std.proofs.lemmas.List.{get_or-take}
-use Rattle.std.proofs.lemmas.Bool.Decides.{nat_tests}
 use Rattle.std.proofs.lemmas.Grind.{get_or_after_one}
-use mathlib.Core.Bool.{and-true, and-false}
-use mathlib.Core.Logic.{inl, inr}
-use native.Mathlib.Numerals.{add-one}
+use mathlib.Core.Bool.{and-false, or-true}
+use mathlib.Core.Logic.{◌⊎◌, inl, inr}
 use lib.ListN.{length-set, length-replicate, get_or-replicate}
 use lib.Seq.{get_or-set_same, get_or-set_other, set-get_or}
 use borrow.Author.Tests.{eq-eqb, ne_eqb, eqb-true, eqb-false, lt-ltb, le-ltb}
-use Rattle.rules.specs.Outcome.{Outcome, refused, given, ◌>>◌}
-use Rattle.rules.specs.Refusals.{wrong_kind}
+use Rattle.rules.specs.Outcome.{Outcome, refused, ◌>>◌}
 use Rattle.rules.specs.Results.{number}
 use Rattle.rules.specs.Numbers.{keep}
 use Rattle.rules.specs.Archive.{link_at, kind_of, record_at, follow}
-use Rattle.rules.specs.Links.{Link, link, is_kind, links_at, stands_at, link_places, namers}
-use Rattle.rules.specs.Audit.{link_checked, links_checked, record_checked, records_checked, named_once}
+use Rattle.rules.specs.Links.{Link, link, is_kind, links_at, owned_at, link_places, namers}
+use Rattle.rules.specs.Audit.{link_checked, named_once}
 use Rattle.rules.specs.declared.refusal.Refusal.{Refusal}
+use Rattle.rules.specs.declared.refusal.Refusal.TheVariants.{WrongKind}
 use Rattle.rules.proofs.Bytes.{link_of}
-use Rattle.rules.proofs.AuditSteps.{link_zero, link_stops, link_leads, unknown_checked, links_checked_lem}
+use Rattle.rules.proofs.AuditSteps.{link_zero, link_stops, link_leads, links_checked_lem}
+use Rattle.rules.proofs.Owners.{known_links}
 use Rattle.rules.proofs.Sound.{fine}
-use Rattle.rules.proofs.Places.{at_within}
-use Rattle.record.specs.declared.Link as code
-use Rattle.record.specs.Linked.{listed}
-use Rattle.record.proofs.Linked.{here, past}
+use Rattle.record.proofs.Linked.{Here, Past}
 use Rattle.chains.proofs.Laws.{Met}
-use Rattle.audit.specs.Marks.{capped, marked, tally, no_marks, marked_once, Checked, LinkChecked}
+use Rattle.audit.specs.Marks.{capped, marked, tally, no_marks, marked_once, Checked, LinkChecked, LinksChecked, RecordChecked, RecordsChecked}
+use Rattle.audit.proofs.Steps as step
+use Rattle.audit.proofs.Steps.{tally_append}
 
--- ---- a refused check, and the marks of some links after others
+-- ---- checks one after another
 
 module _ (archive : List ℕ) where
   checked_refused : {o : Outcome (Unit {0})} {places marks later : List ℕ} {e : Refusal} → o ≡ refused (number e) → Checked archive o places marks later (Err e)
   checked_refused r = record { answers = sym r; marks_are = tt }
 
-  tally_append : (marks ps qs : List ℕ) → tally archive marks (ps ++ qs) ≡ tally archive (tally archive marks ps) qs
+  checked_none : (marks : List ℕ) → Checked archive fine [] marks marks (Ok tt)
   unfolding tally
-  tally_append marks [] qs = refl
-  tally_append marks (p ∷ ps) qs = tally_append (cond (eqb (link_at archive p) 0) marks (marked marks (link_at archive p))) ps qs
+  checked_none marks = record { answers = refl; marks_are = refl }
+
+  -- a check that is refused leaves the rest out
+  then_stops : (o k : Outcome (Unit {0})) {n : ℕ} → o ≡ refused n → (o >> k) ≡ refused n
+  unfolding ◌>>◌
+  then_stops o k e = rw e refl
+
+  -- after one that passes comes the next
+  then_goes : {o k : Outcome (Unit {0})} {ps qs marks mid later : List ℕ} (r : Result (Unit {0}) Refusal) → Checked archive o ps marks mid (Ok tt)
+      → Checked archive k qs mid later r → Checked archive (o >> k) (ps ++ qs) marks later r
+  unfolding ◌>>◌
+  then_goes {qs} {marks} (Ok done) first next = record {
+    answers = rw (← first.answers) next.answers;
+    marks_are = next.marks_are ∙ ap (λ (l : List ℕ). tally archive l qs) first.marks_are ∙ sym (tally_append archive marks _ qs);
+  }
+  then_goes (Err e) first next = record { answers = rw (← first.answers) next.answers; marks_are = tt }
 
   -- ---- a link
 
@@ -66,96 +80,71 @@ module _ (archive : List ℕ) where
     link_refused marks r =
         checked_refused (link_stops archive used n (link at to) _ (λ z. r.0 (sym stands ∙ z)) (ap (follow archive used to n) stands ∙ r.1))
 
-  -- ---- the links of a record
+  -- ---- some links of a record
 
   -- what is left from link i on completes the check
   pub record LinksLeft (used n : ℕ) (ls : List Link) (start : List ℕ) (i : ℕ) (marks : List ℕ) : Type 0 where
-    pub checks : links_checked archive used n ls ≡ links_checked archive used n (drop i ls)
-    pub tallies : tally archive start (map (stands_at n) ls) ≡ tally archive marks (map (stands_at n) (drop i ls))
+    pub then : (later : List ℕ) (r : Result (Unit {0}) Refusal) → LinksChecked archive used n (drop i ls) marks later r → LinksChecked archive used n ls start later r
 
-  module _ (n i : ℕ) (links : List code.Link) {ls : List Link} (e : listed links ≡ ls) where
-    module _ (more : i < length links) where
-      abbrev l : Link
-      l = let x = get_or links i (0, 0) in link x.0 x.1
+  module _ {used n : ℕ} {ls : List Link} {start : List ℕ} {i : ℕ} {marks : List ℕ} (left : LinksLeft used n ls start i marks) where
+    pub links_none : Past ls i → LinksChecked archive used n ls start marks (Ok tt)
+    links_none p = left.then marks (Ok tt) (rw p.from (checked_none marks))
 
-      module _ (used : ℕ) where
-        pub link_passes : {done : Unit {0}} → given done ≡ link_checked archive used n l
-            → links_checked archive used n (drop i ls) ≡ links_checked archive used n (drop (i + 1) ls)
-        unfolding ◌>>◌
-        link_passes c = let h = here links e i more in rw (h.from, ← c) refl
+    module _ {at to : ℕ} {later : List ℕ} (h : Here ls i at to) where
+      pub links_stop : {e : Refusal} → LinkChecked archive used n (link at to) marks later (Err e) → LinksChecked archive used n ls start later (Err e)
+      links_stop {e} c = left.then later (Err e) (rw h.from (checked_refused (then_stops (link_checked archive used n (link at to)) _ (sym c.answers))))
 
-        pub links_stop : {k : ℕ} → refused k ≡ link_checked archive used n l → links_checked archive used n (drop i ls) ≡ refused k
-        unfolding ◌>>◌
-        links_stop c = let h = here links e i more in rw (h.from, ← c) refl
-
-      pub link_marks : (marks later : List ℕ) → later ≡ tally archive marks (stands_at n l ∷ [])
-          → tally archive marks (map (stands_at n) (drop i ls)) ≡ tally archive later (map (stands_at n) (drop (i + 1) ls))
-      unfolding tally
-      link_marks marks later m = let h = here links e i more in rw (h.from, m) refl
-
-    module _ (none : length links ≤ i) where
-      pub links_pass : (used : ℕ) → links_checked archive used n (drop i ls) ≡ fine
-      links_pass used = let p = past links e i none in rw p.from refl
-
-      pub links_marked : (marks : List ℕ) → tally archive marks (map (stands_at n) (drop i ls)) ≡ marks
-      unfolding tally
-      links_marked marks = let p = past links e i none in rw p.from refl
-
-  pub link_room : (n i : ℕ) (links : List code.Link) → listed links ≡ links_at archive n → i < length links → (get_or links i (0, 0)).0 + 4 ≤ 32
-  link_room n i links e more =
-      let h = here links e i more in
-      let w = at_within archive n _ h.has in
-      w.1
+      pub links_on : LinkChecked archive used n (link at to) marks later (Ok tt) → LinksLeft used n ls start (i + 1) later
+      links_on c = record { then = λ last r k. left.then last r (rw h.from (then_goes r c k)) }
 
   -- ---- a record
 
-  module _ (used n : ℕ) where
-    pub unknown_done : 1 ≤ n → is_kind (kind_of (record_at archive n)) ≡ false → record_checked archive used n ≡ refused wrong_kind
-    unknown_done some k = unknown_checked archive used n (λ z. omega arith) k
+  links_done : (used n : ℕ) {ls : List Link} {marks later : List ℕ} {r : Result (Unit {0}) Refusal} → links_at archive n ≡ ls
+      → (n ≡ 0) ⊎ (is_kind (kind_of (record_at archive n)) ≡ true) → LinksChecked archive used n ls marks later r → RecordChecked archive used n marks later r
+  links_done used n {ls} {marks} {later} {r} e k c =
+      let f : LinksChecked archive used n (links_at archive n) marks later r = rw e c in
+      record { answers = f.answers ∙ sym (links_checked_lem archive used n k); marks_are = f.marks_are }
 
-    pub record_done : is_kind (kind_of (record_at archive n)) ≡ true → record_checked archive used n ≡ links_checked archive used n (links_at archive n)
-    record_done k = links_checked_lem archive used n (inr k)
+  pub head_done : (used : ℕ) {marks later : List ℕ} {r : Result (Unit {0}) Refusal} → LinksChecked archive used 0 (owned_at archive 0) marks later r
+      → RecordChecked archive used 0 marks later r
+  unfolding links_at owned_at
+  head_done used c = links_done used 0 refl (inl refl) c
+
+  module _ (used n : ℕ) (some : 1 ≤ n) where
+    pub unknown_done : {marks later : List ℕ} → is_kind (kind_of (record_at archive n)) ≡ false → RecordChecked archive used n marks later (Err WrongKind)
+    unknown_done k = checked_refused (step.unknown_done archive used n some k)
+
+    module _ {kind : ℕ} (kind_is : kind ≡ kind_of (record_at archive n)) (known : is_kind kind ≡ true) where
+      known_kind : is_kind (kind_of (record_at archive n)) ≡ true
+      known_kind = ap is_kind (sym kind_is) ∙ known
+
+      links_are : links_at archive n ≡ link 4 kind ∷ owned_at archive n
+      unfolding links_at owned_at
+      links_are = rw (ne_eqb n 0 (λ z. omega arith), kind_is) (known_links (record_at archive n) known_kind)
+
+      pub next_stops : {marks later : List ℕ} {e : Refusal} → LinkChecked archive used n (link 4 kind) marks later (Err e) → RecordChecked archive used n marks later (Err e)
+      next_stops c = links_done used n links_are (inr known_kind) (checked_refused (then_stops (link_checked archive used n (link 4 kind)) _ (sym c.answers)))
+
+      pub record_done : {marks mid later : List ℕ} {r : Result (Unit {0}) Refusal} → LinkChecked archive used n (link 4 kind) marks mid (Ok tt)
+          → LinksChecked archive used n (owned_at archive n) mid later r → RecordChecked archive used n marks later r
+      record_done {r} c rest = links_done used n links_are (inr known_kind) (then_goes r c rest)
 
   -- ---- all records
 
-  module _ (used : ℕ) where
-    -- the head, which has no kind, comes first
-    pub head_passes : fine ≡ links_checked archive used 0 (links_at archive 0) → fine ≡ records_checked archive used 1
-    unfolding ◌>>◌
-    head_passes c = c ∙ sym (links_checked_lem archive used 0 (inl refl))
-
-    module _ (n : ℕ) (before : fine ≡ records_checked archive used n) where
-      pub records_more : fine ≡ record_checked archive used n → fine ≡ records_checked archive used (n + 1)
-      unfolding ◌>>◌
-      records_more here = rw (add-one n, ← before, ← here) refl
-
-      -- a refused record refuses all
-      pub records_stop : {k : ℕ} → refused k ≡ record_checked archive used n → (m : ℕ) → n < m → records_checked archive used m ≡ refused k
-      unfolding ◌>>◌
-      records_stop here zero h = absurd (omega arith)
-      records_stop {k} here (suc m) h = go (eqb n m) refl (records_stop here m)
-        where
-          go : (t : Bool) → eqb n m ≡ t → (n < m → records_checked archive used m ≡ refused k) → records_checked archive used (suc m) ≡ refused k
-          go true i f = subst (λ (j : ℕ). records_checked archive used (suc j) ≡ refused k) (eqb-true n m i) (rw (← before, ← here) refl)
-          go false i f = rw (f (omega (arith, eqb-false n m i))) refl
-
-    pub head_stops : {k : ℕ} → refused k ≡ links_checked archive used 0 (links_at archive 0) → (m : ℕ) → 0 < m → records_checked archive used m ≡ refused k
-    head_stops c m h = records_stop 0 refl (c ∙ sym (links_checked_lem archive used 0 (inl refl))) m h
-
-  pub head_marked : (marks later : List ℕ) → later ≡ tally archive marks (map (stands_at 0) (links_at archive 0)) → later ≡ tally archive marks (link_places archive 1)
+  pub records_none : (used : ℕ) (start : List ℕ) → RecordsChecked archive used 0 start start (Ok tt)
   unfolding link_places
-  head_marked marks later m = m
+  records_none used start = checked_none start
 
-  pub records_marked : (n : ℕ) (start marks later : List ℕ) → marks ≡ tally archive start (link_places archive n)
-      → later ≡ tally archive marks (map (stands_at n) (links_at archive n)) → later ≡ tally archive start (link_places archive (n + 1))
-  unfolding link_places
-  records_marked n start marks later a b = rw (add-one n) (b ∙ ap (λ (l : List ℕ). tally archive l (map (stands_at n) (links_at archive n))) a ∙ sym (tally_append start (link_places archive n) (map (stands_at n) (links_at archive n))))
+  module _ (used n : ℕ) {start marks later : List ℕ} (before : RecordsChecked archive used n start marks (Ok tt)) where
+    pub records_more : RecordChecked archive used n marks later (Ok tt) → RecordsChecked archive used (n + 1) start later (Ok tt)
+    records_more here = record {
+      answers = step.records_more archive used n before.answers here.answers;
+      marks_are = step.records_marked archive n start marks later before.marks_are here.marks_are;
+    }
 
-pub ruleset kinds = (unknown_done, record_done)
-
-pub ruleset links = (link_passes, links_stop, links_pass, links_marked, link_room)
-
-pub ruleset records = (head_passes, head_stops, head_marked, records_more, records_stop, records_marked)
+    -- a refused record refuses all
+    pub records_stop : {e : Refusal} → RecordChecked archive used n marks later (Err e) → (m : ℕ) → n < m → RecordsChecked archive used m start later (Err e)
+    records_stop here m h = checked_refused (step.records_stop archive used n before.answers here.answers m h)
 
 -- ---- marks
 
@@ -249,25 +238,37 @@ once_same archive used (suc k) h = rw (once_same archive used k (omega arith)) (
 
 -- ---- the pass over the marks
 
-pub once_none : (marks : List ℕ) → marked_once marks 1 ≡ true
+once_all : (marks : List ℕ) (n : ℕ) → ((i : ℕ) → 1 ≤ i → i < n → get_or marks i 0 ≡ 1) → marked_once marks n ≡ true
 unfolding marked_once
-once_none marks = refl
+once_all marks zero h = refl
+once_all marks (suc zero) h = refl
+once_all marks (suc (suc n)) h =
+    rw (once_all marks (suc n) (λ i k l. h i k (omega arith)), eq-eqb (get_or marks (suc n) 0) 1 (h (suc n) (omega arith) (omega arith))) (or-true (eqb (suc n) 0))
 
--- place k of the marks behind the head's
-module _ (marks : List ℕ) (used k : ℕ) (here : k < length (take (used - 1) (drop 1 marks))) where
-  more : marked_once marks (1 + (k + 1)) ≡ (marked_once marks (1 + k) && eqb (get_or (take (used - 1) (drop 1 marks)) k 0) 1)
-  unfolding marked_once
-  more =
-      let l = length-take (used - 1) (drop 1 marks) in
-      let one : 1 + k ≡ suc k = omega arith in
-      let two : 1 + (k + 1) ≡ suc (suc k) = omega arith in
-      let mark = get_or-take (used - 1) (drop 1 marks) k 0 (omega (arith, l, here)) ∙ get_or_after_one marks k 0 in
-      rw (mark, two, one, ne_eqb (suc k) 0 (λ z. omega (arith, z))) refl
+once_stop : (marks : List ℕ) (n m : ℕ) → 1 ≤ n → (get_or marks n 0 ≡ 1 → ⊥) → n < m → false ≡ marked_once marks m
+unfolding marked_once
+once_stop marks n zero z f h = absurd (omega arith)
+once_stop marks n (suc m) z f h = go (eqb n m) refl (once_stop marks n m z f)
+  where
+    go : (t : Bool) → eqb n m ≡ t → (n < m → false ≡ marked_once marks m) → false ≡ (marked_once marks m && (eqb m 0 || eqb (get_or marks m 0) 1))
+    go true i g =
+        subst (λ (x : ℕ). false ≡ (marked_once marks x && (eqb x 0 || eqb (get_or marks x 0) 1))) (eqb-true n m i)
+        (sym (rw (ne_eqb n 0 (λ e. omega arith), ne_eqb (get_or marks n 0) 1 f) (and-false (marked_once marks n))))
+    go false i g = rw (← g (omega (arith, eqb-false n m i)))
 
-  pub once_more : get_or (take (used - 1) (drop 1 marks)) k 0 ≡ 1 → marked_once marks (1 + (k + 1)) ≡ marked_once marks (1 + k)
-  once_more e = more ∙ rw e (and-true (marked_once marks (1 + k)))
+module _ (marks : List ℕ) (used : ℕ) (fits : used ≤ length marks) where
+  abbrev rest : List ℕ
+  rest = take (used - 1) (drop 1 marks)
 
-  pub once_stop : (get_or (take (used - 1) (drop 1 marks)) k 0 ≡ 1 → ⊥) → marked_once marks (1 + (k + 1)) ≡ false
-  once_stop f = more ∙ rw (ne_eqb (get_or (take (used - 1) (drop 1 marks)) k 0) 1 f) (and-false (marked_once marks (1 + k)))
+  size : length rest ≡ used - 1
+  size = let d = length-drop 1 marks in omega (arith, length-take (used - 1) (drop 1 marks))
 
-pub ruleset pass = (once_none, once_more, once_stop, nat_tests)
+  at : (k : ℕ) → k < used - 1 → (i : ℕ) → 1 + k ≡ i → get_or rest k 0 ≡ get_or marks i 0
+  at k h i e = get_or-take (used - 1) (drop 1 marks) k 0 h ∙ get_or_after_one marks k 0 ∙ ap (λ (i : ℕ). get_or marks i 0) e
+
+  pub once_by : (r : Bool) → MatchBool r (AllWithin (λ m. m ≡ 1) rest 0 (length rest)) ((k : ℕ) × (k < length rest) × HoldsAt (λ m. m ≡ 1 → ⊥) rest k)
+      → r ≡ marked_once marks used
+  once_by true h =
+      sym (once_all marks used (λ i some below. sym (at (i - 1) (omega arith) i (omega arith)) ∙ h (i - 1) 0 (omega arith) (omega (arith, size))))
+  once_by false h =
+      once_stop marks (1 + h.0) used (omega arith) (λ e. h.2 0 (at h.0 (omega (arith, size, h.1)) (1 + h.0) refl ∙ e)) (omega (arith, size, h.1))

@@ -29,7 +29,7 @@ fn mark(marks: &mut Marks, n: u64)
 }
 
 // Each used record but the head is named once. No mark ends the loop, so many are compared at a time.
-#[tactic(auto, using(crate::proofs::Marks::pass))]
+#[tactic(auto, using(crate::proofs::Steps::pass))]
 fn all_once(marks: &Marks, used: u64) -> bool
     requires { (1 ≤ used) × (used ≤ 65536) }
     ensures { result ≡ marked_once marks.now used }
@@ -67,7 +67,7 @@ impl<'a> Records<'a> {
     }
 
     // The links of record n, which are these, in byte order.
-    #[tactic(auto, using(crate::proofs::Marks::links))]
+    #[tactic(auto, using(crate::proofs::Steps::links))]
     fn check_links(&self, n: u64, links: &[Link], marks: &mut Marks) -> Result<(), Refusal>
         requires below { n < self.now.used }
         requires its { listed links.now ≡ links_at self.now.archive.now n }
@@ -80,7 +80,7 @@ impl<'a> Records<'a> {
     }
 
     // The kind of record n, which isn't the head, then its links.
-    #[tactic(auto, using(crate::proofs::Marks::kinds))]
+    #[tactic(auto, using(crate::proofs::Steps::kinds))]
     fn check_record(&self, n: u64, marks: &mut Marks) -> Result<(), Refusal>
         requires { (1 ≤ n) × (n < self.now.used) }
         ensures { RecordChecked self.now.archive.now self.now.used n marks.old marks.new result }
@@ -93,7 +93,7 @@ impl<'a> Records<'a> {
     }
 
     // The head's link, then each used record by number.
-    #[tactic(auto, using(crate::proofs::Marks::records))]
+    #[tactic(auto, using(crate::proofs::Steps::records))]
     fn check(&self, marks: &mut Marks) -> Result<(), Refusal>
         ensures { RecordsChecked self.now.archive.now self.now.used self.now.used marks.old marks.new result }
     {

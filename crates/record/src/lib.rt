@@ -151,7 +151,8 @@ pub fn links_at(archive: &[u8], n: u64) -> &'static [Link]
 }
 
 // Its links but the one to the next record of its chain, as links_of has them behind that.
-fn owned_of(r: &Record) -> &'static [Link]
+#[tactic(auto, using(crate::proofs::Links::owned))]
+pub fn owned_of(r: &Record) -> &'static [Link]
     ensures { listed result.now ≡ owned_by r.now }
 {
     let links = links_of(r);
@@ -171,3 +172,6 @@ pub fn owned_at(archive: &[u8], n: u64) -> &'static [Link]
     }
     owned_of(record_at(archive, n))
 }
+
+#[cfg(test)]
+mod tests;

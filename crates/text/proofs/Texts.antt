@@ -96,6 +96,10 @@ as_std n h =
     decimal_by_steps (λ m l. m < 2 ^ 64 → decimal m ≡ l) (λ m s k. digits_small m s)
     (λ m l s e k. digits_more m s (omega arith) ∙ ap (λ (ds : List ℕ). ds ++ ((48 + m % 10) ∷ [])) (e (omega arith))) n h h
 
+pub as_std_signed : (z : ℤ) → mag z < 2 ^ 63 → signed_decimal z ≡ std.signed_decimal z
+as_std_signed (pos n) h = as_std n (omega arith)
+as_std_signed (negsuc n) h = ap (λ (l : List ℕ). 45 ∷ l) (as_std (suc n) (omega arith))
+
 -- no amount has more than 19 digits
 pub digits_few : (n : ℕ) → n < 10 ^ 19 → length (decimal n) ≤ 19
 digits_few n h = rw (as_std n (omega arith)) (length-decimal-le 19 n (omega arith) h (omega arith))

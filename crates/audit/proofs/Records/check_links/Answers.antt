@@ -1,5 +1,5 @@
 use Rattle.std.proofs.Common.{◌≡◌, ◌∙◌, Ok, arith, rules}
-use Rattle.audit.proofs.Marks.{link_passes, link_marks}
+use Rattle.audit.proofs.Steps.{link_passes, link_marks}
 use Rattle.audit.proofs.Records.check_links.Goals as goal
 
 pub loop-at-preserved : goal.loop-at-preserved
