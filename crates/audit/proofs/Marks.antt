@@ -2,8 +2,6 @@
 -- of marks.
 use Rattle.std.proofs.Common.{◌≡◌, ℕ, zero, suc, ◌+◌, ◌*◌, ◌-◌, ◌≤◌, ◌<◌, Bool, true, false, cond, ◌&&◌, ◌||◌, List, [], ◌∷◌, ◌++◌, length, take, drop, get_or, set, eqb, MatchBool, Result, Ok, Err, refl, sym, ◌∙◌, ap, subst, arith, length-take, length-drop}
 use Rattle.std.specs.List.{AllWithin, HoldsAt}
-use Rattle.std.proofs.lemmas.List.{get_or-take}
-use Rattle.std.proofs.lemmas.Grind.{get_or_after_one}
 use mathlib.Core.Bool.{and-false, or-true}
 use mathlib.Core.Logic.{◌⊎◌, inl, inr}
 use lib.ListN.{length-set, length-replicate, get_or-replicate}
@@ -25,7 +23,7 @@ use Rattle.record.proofs.Linked.{Here, Past}
 use Rattle.chains.proofs.Laws.{Met}
 use Rattle.audit.specs.Marks.{capped, marked, tally, no_marks, marked_once, Checked, LinkChecked, LinksChecked, RecordChecked, RecordsChecked}
 use Rattle.audit.proofs.Steps as step
-use Rattle.audit.proofs.Steps.{tally_append}
+use Rattle.audit.proofs.Steps.{tally_append, mark_behind}
 
 -- ---- checks one after another
 
@@ -264,7 +262,7 @@ module _ (marks : List ℕ) (used : ℕ) (fits : used ≤ length marks) where
   size = let d = length-drop 1 marks in omega (arith, length-take (used - 1) (drop 1 marks))
 
   at : (k : ℕ) → k < used - 1 → (i : ℕ) → 1 + k ≡ i → get_or rest k 0 ≡ get_or marks i 0
-  at k h i e = get_or-take (used - 1) (drop 1 marks) k 0 h ∙ get_or_after_one marks k 0 ∙ ap (λ (i : ℕ). get_or marks i 0) e
+  at k h i e = mark_behind marks used k h ∙ ap (λ (i : ℕ). get_or marks i 0) e
 
   pub once_by : (r : Bool) → MatchBool r (AllWithin (λ m. m ≡ 1) rest 0 (length rest)) ((k : ℕ) × (k < length rest) × HoldsAt (λ m. m ≡ 1 → ⊥) rest k)
       → r ≡ marked_once marks used

@@ -126,7 +126,10 @@ pub once_none : (marks : List ℕ) → marked_once marks 1 ≡ true
 unfolding marked_once
 once_none marks = refl
 
--- place k of the marks behind the head's
+-- mark k of those behind the head's
+pub mark_behind : (marks : List ℕ) (used k : ℕ) → k < used - 1 → get_or (take (used - 1) (drop 1 marks)) k 0 ≡ get_or marks (1 + k) 0
+mark_behind marks used k h = get_or-take (used - 1) (drop 1 marks) k 0 h ∙ get_or_after_one marks k 0
+
 module _ (marks : List ℕ) (used k : ℕ) (here : k < length (take (used - 1) (drop 1 marks))) where
   more : marked_once marks (1 + (k + 1)) ≡ (marked_once marks (1 + k) && eqb (get_or (take (used - 1) (drop 1 marks)) k 0) 1)
   unfolding marked_once
@@ -134,8 +137,7 @@ module _ (marks : List ℕ) (used k : ℕ) (here : k < length (take (used - 1) (
       let l = length-take (used - 1) (drop 1 marks) in
       let one : 1 + k ≡ suc k = omega arith in
       let two : 1 + (k + 1) ≡ suc (suc k) = omega arith in
-      let mark = get_or-take (used - 1) (drop 1 marks) k 0 (omega (arith, l, here)) ∙ get_or_after_one marks k 0 in
-      rw (mark, two, one, ne_eqb (suc k) 0 (λ z. omega (arith, z))) refl
+      rw (mark_behind marks used k (omega (arith, l, here)), two, one, ne_eqb (suc k) 0 (λ z. omega (arith, z))) refl
 
   pub once_more : get_or (take (used - 1) (drop 1 marks)) k 0 ≡ 1 → marked_once marks (1 + (k + 1)) ≡ marked_once marks (1 + k)
   once_more e = more ∙ rw e (and-true (marked_once marks (1 + k)))
